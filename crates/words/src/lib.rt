@@ -1,0 +1,70 @@
+// Words and numbers in lines of text.
+//
+// Job: cuts bytes at the first separator, and reads decimal numbers.
+// May use: std alone.
+// Main promise: a cut answers exactly what stands before and after the first separator; a number is read
+// exactly from one to nineteen decimal digits.
+ghost use mathlib.Core.Path.{_≡_};
+ghost use Prim.Native.Nat.{_≤_, _<_};
+ghost use lib.ListN.{length};
+ghost use Rattle.std.specs.declared.option.Option.the-variants.{Some, None};
+ghost use Rattle.std.specs.Options.{mapped};
+ghost use Rattle.std.specs.Reads.{Numeral, value};
+ghost use Rattle.std.specs.Text.{digitValue};
+ghost use Rattle.words.specs.Cuts.{before, after};
+
+// The most digits that a number may have: every such number fits 64 bits.
+const MOST_DIGITS: usize = 19;
+
+// Bytes cut at the first separator: what stands before it, and what stands after it, if it is there.
+#[derive(Clone, Copy)]
+pub struct Cut<'a> {
+    pub front: &'a [u8],
+    pub rest: Option<&'a [u8]>,
+}
+
+// Cuts bytes at the first one that equals `separator`.
+pub fn cut_at(bytes: &[u8], separator: u8) -> Cut<'_>
+    ensures front { λ r. ⌜ now (r .front) ≡ before separator (now (bytes .entry)) ⌝ }
+    ensures rest { λ r. ⌜ mapped now (r .rest) ≡ after separator (now (bytes .entry)) ⌝ }
+{
+    for (i, b) in bytes.iter().enumerate() {
+        if *b == separator {
+            return Cut {
+                front: &bytes[0..i],
+                rest: Some(&bytes[i + 1..bytes.len()]),
+            };
+        }
+    }
+    Cut {
+        front: bytes,
+        rest: None,
+    }
+}
+
+// The digit that a byte writes.
+fn digit(byte: u8) -> Option<u64>
+    ensures { λ r. ⌜ elim r [ Some d ↦ (d < 10) × (d ≡ digitValue byte) | None ↦ 10 ≤ digitValue byte ] ⌝ }
+{
+    match byte {
+        b'0'..=b'9' => Some((byte - b'0') as u64),
+        _ => None,
+    }
+}
+
+// The number that a word of one to nineteen decimal digits writes.
+pub fn number(word: &[u8]) -> Option<u64>
+    ensures { λ r. ⌜ elim r [ Some n ↦ Numeral 10 (now (word .entry)) × (length (now (word .entry)) ≤ 19) × (n ≡ value 10 (now (word .entry))) | None ↦ (Numeral 10 (now (word .entry)) → length (now (word .entry)) ≤ 19 → ⊥) ] ⌝ }
+{
+    if word.is_empty() || word.len() > MOST_DIGITS {
+        return None;
+    }
+    let mut n: u64 = 0;
+    for b in word {
+        let Some(d) = digit(*b) else {
+            return None;
+        };
+        n = n * 10 + d;
+    }
+    Some(n)
+}
