@@ -1,0 +1,42 @@
+ghost use mathlib.Core.Path.{_≡_};
+ghost use Prim.Native.Nat.{_<_};
+ghost use lib.ListN.{length, set};
+ghost use Rattle.std.specs.declared.result.Result.the-variants.{Ok, Err};
+ghost use Rattle.tables.specs.Tables.{of, Lawful-entry};
+ghost use Rattle.words.specs.Lines.{lines};
+ghost use Rattle.listing.specs.Listing.{listed};
+use super::line::Item;
+use super::line::parse_line;
+use tables::Refusal;
+use tables::Stamp;
+use tables::Store;
+use words::split_line;
+
+// Puts one entry into a store.
+fn put_item<S: Store>(to: &mut S, e: usize, item: &Item) -> Result<(), Refusal>
+    requires within { ⌜ e < length (S·Readable .table (now to)) ⌝ }
+    requires lawful { ⌜ Lawful-entry (of (now (now item .text)) (now item .edition) (now item .hand)) ⌝ }
+    ensures done { λ r. ⌜ r ≡ Ok tt ⌝ }
+    ensures after { λ _. ⌜ S·Readable .table (now (to .exit)) ≡ set (S·Readable .table (now (to .entry))) e (of (now (now (item .entry) .text)) (now (item .entry) .edition) (now (item .entry) .hand)) ⌝ }
+{
+    let stamp = Stamp::new(item.edition, item.hand)?;
+    to.put(e, item.text, stamp)
+}
+
+// Puts the entries of a listing into a store that has as many.
+fn fill<S: Store>(listing: &[u8], to: &mut S) -> Result<(), Refusal>
+    requires { ⌜ length (S·Readable .table (now to)) ≡ length (listed (lines (now listing))) ⌝ }
+    ensures done { λ r. ⌜ r ≡ Ok tt ⌝ }
+    ensures after { λ _. ⌜ S·Readable .table (now (to .exit)) ≡ listed (lines (now (listing .entry))) ⌝ }
+{
+    let mut text = listing;
+    let mut e = 0;
+    while let Some(first) = split_line(text) {
+        if let Ok(item) = parse_line(first.line) {
+            put_item(to, e, &item)?;
+            e += 1;
+        }
+        text = first.rest;
+    }
+    Ok(())
+}
