@@ -1,0 +1,6 @@
+use borrow.Author.Needs.{needs}
+use Rattle.slots.proofs.Entries.{table-length}
+use Rattle.slots.proofs.store.SlotReadable.count.Needs as need
+
+pub returns : need.returns
+returns c = search (needs, table-length)
