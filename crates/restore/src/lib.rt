@@ -4,6 +4,7 @@
 // May use: `tables`.
 // Main promise: where the two counts are equal the store's table is then the source's; where they differ the
 // call is refused by 15 and the store is as it was. There is no other refusal.
+
 ghost use mathlib.Core.Path.{_≡_};
 ghost use mathlib.Core.List.{_++_};
 ghost use Prim.Native.Nat.{_<_, _≤_};

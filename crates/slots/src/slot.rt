@@ -15,6 +15,7 @@ pub(crate) struct Slot {
     pub(crate) text: [u8; LONGEST_TEXT],
     pub(crate) len: usize,
     pub(crate) stamp: Stamp,
+    // the text is within the slot's bytes
     ghost fits: { (len ≤ 96) × (length text ≡ 96) },
 }
 
@@ -23,5 +24,6 @@ pub(crate) struct Slot {
 pub struct SlotStore {
     pub(crate) slots: [Slot; MOST_ENTRIES],
     pub(crate) count: usize,
+    // the entries are within the store's slots
     ghost fits: { (count ≤ 128) × (length slots ≡ 128) },
 }
