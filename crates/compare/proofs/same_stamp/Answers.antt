@@ -1,6 +1,7 @@
 use Rattle.compare.proofs.Decisions.{both}
 use Rattle.compare.proofs.same_stamp.Needs as need
 
+-- both answer with their stamps, which are compared
 pub returns : need.returns
 returns g c =
     let p = c .stamp .ensures .0 (c .pre .in-left) in

@@ -18,6 +18,7 @@ lengths g c =
     let q = c .text-right-len .ensures .0 (c .pre .in-right) .0 m .0 in
     rw (p, q) at (c .eq .ensures)
 
+-- at equal lengths the buffers decide
 pub returns-then-eq : need.returns-then-eq
 returns-then-eq g c =
     let l = g .L·Readable .lawful (c .args .left .now) .1 (c .args .e) (c .pre .in-left) .0 in
@@ -27,5 +28,6 @@ returns-then-eq g c =
     (c .text-right-len .ensures .0 (c .pre .in-right) .0 m .1)
     (matches-decides _ _ _ (c .eq-then-eq .ensures))
 
+-- texts of other lengths differ
 pub returns-else-eq : need.returns-else-eq
 returns-else-eq g c = (search needs, λ h. lengths g (need.at·returns-else-eq g c .After-eq) .1 (ap length h))

@@ -3,6 +3,7 @@ use Rattle.tables.specs.Tables.{entry}
 use Rattle.restore.proofs.Steps.{text-copied, entry-put}
 use Rattle.restore.proofs.restore_entry.Needs as need
 
+-- the source's stamp is lawful, so it is not refused
 pub returns-in-Break-stamp : need.returns-in-Break-stamp
 returns-in-Break-stamp g c =
     let l = g .R·Readable .lawful (c .args .from .now) .1 (c .args .e) (c .pre .in-source) in
@@ -10,12 +11,14 @@ returns-in-Break-stamp g c =
     let b = c .in-Break-stamp .ensures tt in
     search needs
 
+-- the source's text has at most 96 bytes, so the buffer is long enough
 pub returns-in-Break-len : need.returns-in-Break-len
 returns-in-Break-len g c =
     let l = g .R·Readable .lawful (c .args .from .now) .1 (c .args .e) (c .pre .in-source) in
     let a = c .in-Break-len .ensures tt .0 (c .pre .in-source) in
     search needs
 
+-- what is put is the source's entry
 pub returns : need.returns
 returns g c =
     let l = g .R·Readable .lawful (c .args .from .now) .1 (c .args .e) (c .pre .in-source) in
