@@ -1,3 +1,5 @@
 pub mod Totals
 pub mod Frames
 pub mod Shifts
+pub mod Rooms
+pub mod Cuts

@@ -1,9 +1,11 @@
 ghost use mathlib.Core.Path.{_≡_};
-ghost use mathlib.Core.List.{List, _∷_};
-ghost use Prim.Native.Nat.{ℕ, _<_, _≤_};
-ghost use lib.ListN.{length, drop};
+ghost use mathlib.Core.List.{List, [], _∷_, _++_};
+ghost use Prim.Native.Nat.{ℕ, _+_, _/_, _<_, _≤_};
+ghost use lib.ListN.{length, take, drop, replicate};
+ghost use Rattle.std.specs.Joined.{joined};
 ghost use Rattle.pages.specs.Blocks.{blocks};
 use super::page::Chain;
+use super::page::PAGE;
 use super::page::Page;
 use super::stock::Stock;
 
@@ -36,4 +38,45 @@ impl Stock {
             pages: onto.pages + 1,
         };
     }
+
+    // Clears every page of the chain of entry `e`, and moves it to the free chain. Then six pages are free at
+    // least, as no entry has more.
+    pub fn give_back(&mut self, e: usize)
+        requires within { ⌜ e < now self .count ⌝ }
+        requires small { ⌜ ((o : ℕ) → o < now self .count → length (blocks (now self) o) ≤ 6) ⌝ }
+        ensures stays { λ _. ⌜ now (self .exit) .count ≡ now (self .entry) .count ⌝ }
+        ensures none { λ _. ⌜ blocks (now (self .exit)) e ≡ [] ⌝ }
+        ensures room { λ _. ⌜ 6 ≤ length (blocks (now (self .exit)) (now (self .exit) .count)) ⌝ }
+        ensures rest { λ _. ⌜ ((o : ℕ) → o < now (self .entry) .count → (o ≡ e → ⊥) → blocks (now (self .exit)) o ≡ blocks (now (self .entry)) o) ⌝ }
+    {
+        while self.chains[e].pages > 0 {
+            self.shift(e, self.count, [0; 16]);
+        }
+    }
+
+    // Writes a text into free pages, and puts these at the front of the chain of entry `e`.
+    pub fn fill(&mut self, e: usize, text: &[u8])
+        requires within { ⌜ e < now self .count ⌝ }
+        requires short { ⌜ length (now text) ≤ 96 ⌝ }
+        requires room { ⌜ 6 ≤ length (blocks (now self) (now self .count)) ⌝ }
+        ensures stays { λ _. ⌜ now (self .exit) .count ≡ now (self .entry) .count ⌝ }
+        ensures more { λ _. ⌜ length (blocks (now (self .exit)) e) ≡ length (blocks (now (self .entry)) e) + (length (now (text .entry)) + 15) / 16 ⌝ }
+        ensures front { λ _. ⌜ take (length (now (text .entry))) (joined (λ x. x) (blocks (now (self .exit)) e)) ≡ now (text .entry) ⌝ }
+        ensures rest { λ _. ⌜ ((o : ℕ) → o < now (self .entry) .count → (o ≡ e → ⊥) → blocks (now (self .exit)) o ≡ blocks (now (self .entry)) o) ⌝ }
+    {
+        for i in (0..text.len().div_ceil(PAGE)).rev() {
+            self.shift(self.count, e, block(text, PAGE * i));
+        }
+    }
+}
+
+// The block of a text from byte `at` on, filled up with zeros.
+fn block(text: &[u8], at: usize) -> [u8; 16]
+    requires { ⌜ at ≤ length (now text) ⌝ }
+    ensures { λ r. ⌜ r ≡ take 16 (drop at (now (text .entry)) ++ replicate 16 0) ⌝ }
+{
+    let mut bytes = [0u8; 16];
+    let size = (text.len() - at).min(PAGE);
+    bytes[0..size].copy_from_slice(&text[at..at + size]);
+    bytes
 }
