@@ -3,3 +3,5 @@ pub mod Frames
 pub mod Shifts
 pub mod Rooms
 pub mod Cuts
+pub mod Starts
+pub mod Readings

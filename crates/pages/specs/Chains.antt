@@ -4,7 +4,7 @@ use mathlib.Core.List.{List, [], _∷_, map}
 use mathlib.Core.Bool.{cond}
 use Prim.Native.Nat.{ℕ, zero, suc, _+_, _*_, _≤_, _<_}
 use lib.Dec.{eqb, ltb}
-use lib.ListN.{length, getD}
+use lib.ListN.{length, getD, replicate}
 use Rattle.pages.specs.declared.page.Page.{Page}
 use Rattle.pages.specs.declared.page.Chain.{Chain}
 
@@ -15,6 +15,10 @@ no-page = record { bytes = []; next = 0 }
 -- the page of a number
 abbrev pub page : List Page → ℕ → Page
 page ps p = getD ps p no-page
+
+-- a page of zeros that is linked to the page after it
+abbrev pub fresh : ℕ → Page
+fresh p = record { bytes = replicate 16 0; next = p + 1 }
 
 -- the numbers of the k pages from h on, each linked to the next
 abbrev pub linked : List Page → ℕ → ℕ → List ℕ

@@ -1,15 +1,68 @@
 ghost use mathlib.Core.Path.{_≡_};
 ghost use mathlib.Core.List.{List, [], _∷_, _++_};
-ghost use Prim.Native.Nat.{ℕ, _+_, _/_, _<_, _≤_};
+ghost use Prim.Native.Nat.{ℕ, _+_, _*_, _/_, _<_, _≤_};
 ghost use lib.ListN.{length, take, drop, replicate};
 ghost use Rattle.std.specs.Joined.{joined};
 ghost use Rattle.pages.specs.Blocks.{blocks};
+ghost use Rattle.pages.specs.Chains.{page, fresh, size};
 use super::page::Chain;
 use super::page::PAGE;
 use super::page::Page;
 use super::stock::Stock;
 
+// The pages of a new stock: zeros, each page linked to the one after it.
+fn fresh_pages() -> [Page; 768]
+    ensures { λ r. ⌜ (length r ≡ 768) × ((p : ℕ) → p < 768 → page r p ≡ fresh p) ⌝ }
+{
+    let mut pages = [Page {
+        bytes: [0; 16],
+        next: 0,
+    }; 768];
+    for p in 0..768 {
+        pages[p] = Page {
+            bytes: [0; 16],
+            next: p + 1,
+        };
+    }
+    pages
+}
+
 impl Stock {
+    // The stock for `n` entries: all pages are free.
+    pub fn new(n: usize) -> Stock
+        requires { ⌜ n ≤ 128 ⌝ }
+        ensures counted { λ r. ⌜ r .count ≡ n ⌝ }
+        ensures empty { λ r. ⌜ ((e : ℕ) → e < n → blocks r e ≡ []) ⌝ }
+    {
+        let mut chains = [Chain { first: 0, pages: 0 }; 129];
+        chains[n] = Chain {
+            first: 0,
+            pages: 6 * n,
+        };
+        Stock {
+            pages: fresh_pages(),
+            chains,
+            count: n,
+        }
+    }
+
+    // The blocks of the chain of entry `e`, one after another.
+    pub fn read(&self, e: usize) -> [u8; 96]
+        requires within { ⌜ e < now self .count ⌝ }
+        requires small { ⌜ size (now self .chains) e ≤ 6 ⌝ }
+        ensures { λ r. ⌜ take (16 * size (now (self .entry) .chains) e) r ≡ joined (λ x. x) (blocks (now (self .entry)) e) ⌝ }
+    {
+        let chain = self.chains[e];
+        let mut text = [0u8; 96];
+        let mut p = chain.first;
+        for i in 0..chain.pages {
+            let page = self.pages[p];
+            text[PAGE * i..PAGE * i + PAGE].copy_from_slice(&page.bytes);
+            p = page.next;
+        }
+        text
+    }
+
     // Moves the first page of chain `a` to the front of chain `b`, and writes a block into it.
     fn shift(&mut self, a: usize, b: usize, block: [u8; 16])
         requires a_in { ⌜ a ≤ now self .count ⌝ }
