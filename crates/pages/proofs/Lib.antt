@@ -5,3 +5,6 @@ pub mod Rooms
 pub mod Cuts
 pub mod Starts
 pub mod Readings
+pub mod Puts
+pub mod Finds
+pub mod Blanks

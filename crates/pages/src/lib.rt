@@ -8,5 +8,9 @@
 mod moves;
 mod page;
 mod stock;
+mod store;
+mod table;
 
-pub use stock::Stock;
+pub use store::PageStore;
+pub use table::PagePut;
+pub use table::PageReadable;
