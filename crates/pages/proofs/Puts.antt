@@ -53,10 +53,10 @@ module _ (s : PageStore) (st : Stock) (e : ℕ) (text : List ℕ) (stamp : Stamp
   row-rest : (o : ℕ) → (o ≡ e → ⊥) → row rs o ≡ row (s .rows) o
   row-rest o ne = getD-set-other (s .rows) e o _ no-row ne
 
-  pub wide-again : length rs ≡ 128
+  wide-again : length rs ≡ 128
   wide-again = length-set (s .rows) e (record { len = length text; stamp = stamp }) ∙ s .wide
 
-  pub fits-again : Fits (st .chains) (st .count) rs
+  fits-again : Fits (st .chains) (st .count) rs
   fits-again o l =
       let sized = blocks-length (st .pages) (st .chains) o in
       ⊎-elim
@@ -72,6 +72,11 @@ module _ (s : PageStore) (st : Stock) (e : ℕ) (text : List ℕ) (stamp : Stamp
       (omega arith, omega arith))
       (cases-eq o e)
 
+  -- what the store keeps
+  pub kept : (length rs ≡ 128) × Fits (st .chains) (st .count) rs
+  kept = (wide-again, fits-again)
+
+  -- its table
   pub put-table : entries st rs ≡ set (table-of s) e (of text (stamp .edition) (stamp .hand))
   put-table =
       table-set s st rs e (of text (stamp .edition) (stamp .hand)) stays within

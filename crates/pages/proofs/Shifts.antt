@@ -26,7 +26,7 @@ use Rattle.pages.specs.Chains.{
   times,
   total,
   Whole,
-  Parted,
+  Once,
   Counted,
 }
 use Rattle.pages.proofs.Totals.{total-one, total-two, total-move}
@@ -45,7 +45,7 @@ pub page-in : (s : Stock) (o p : ℕ) → o ≤ s .count → 1 ≤ times p (chai
 page-in s o p l h =
     let F : ℕ → ℕ = λ x. times p (chain (s .pages) (s .chains) x) in
     let most : F o ≤ total F (suc (s .count)) = total-one F o (suc (s .count)) (omega arith) in
-    let all : total F (suc (s .count)) ≡ cond (ltb p (6 * s .count)) 1 0 = s .parted p in
+    let all : total F (suc (s .count)) ≡ cond (ltb p (6 * s .count)) 1 0 = s .once p in
     let below = ltb-true p (6 * s .count) (one-when (ltb p (6 * s .count)) (omega arith)) in
     omega (arith, s .lengths .2)
 
@@ -86,7 +86,7 @@ module _ (s : Stock) (a : ℕ) (la : a ≤ s .count) (held : 0 < length (blocks 
   first-in = let e = at-a in page-in s a p la (omega arith)
 
   all-p : total (λ o. times p (chain ps cs o)) (suc n) ≤ 1
-  all-p = let e = s .parted p in let m = one-at-most (ltb p (6 * n)) in omega arith
+  all-p = let e = s .once p in let m = one-at-most (ltb p (6 * n)) in omega arith
 
   off-tail : times p tail ≡ 0
   off-tail =
@@ -140,41 +140,54 @@ module _ (s : Stock) (a : ℕ) (la : a ≤ s .count) (held : 0 < length (blocks 
         ap (λ c. linked ps′ (c .pages) (c .first)) (now-other o na nb)
         ∙ linked-frame ps p x (size cs o) (getD cs o no-chain .first) (off-other o l na)
 
-    pub from : blocks-in ps′ cs′ a ≡ drop 1 (blocks-in ps cs a)
+    from : blocks-in ps′ cs′ a ≡ drop 1 (blocks-in ps cs a)
     from =
         ap (map (λ q. page ps′ q .bytes)) chain-from ∙ bytes-frame ps p x tail off-tail
         ∙ ap (λ l. drop 1 (map (λ q. page ps q .bytes) l)) (sym chain-a)
 
-    pub onto : blocks-in ps′ cs′ b ≡ bs ∷ blocks-in ps cs b
+    onto : blocks-in ps′ cs′ b ≡ bs ∷ blocks-in ps cs b
     onto =
         ap (map (λ q. page ps′ q .bytes)) chain-onto
         ∙ ap (λ y. y .bytes ∷ map (λ q. page ps′ q .bytes) (chain ps cs b)) at-p
         ∙ ap (λ t. bs ∷ t) (bytes-frame ps p x (chain ps cs b) (off-other b lb (λ e. apart (sym e))))
 
-    pub rest : (o : ℕ) → o ≤ n → (o ≡ a → ⊥) → (o ≡ b → ⊥) → blocks-in ps′ cs′ o ≡ blocks-in ps cs o
+    rest : (o : ℕ) → o ≤ n → (o ≡ a → ⊥) → (o ≡ b → ⊥) → blocks-in ps′ cs′ o ≡ blocks-in ps cs o
     rest o l na nb =
         ap (map (λ q. page ps′ q .bytes)) (chain-rest o l na nb) ∙ bytes-frame ps p x (chain ps cs o) (off-other o l na)
 
-    pub whole-again : length bs ≡ 16 → Whole ps′
+    whole-again : length bs ≡ 16 → Whole ps′
     whole-again long q l =
         ⊎-elim
         (λ e. ap (λ r. length (page ps′ r .bytes)) e ∙ ap (λ y. length (y .bytes)) at-p ∙ long)
         (λ ne. ap (λ y. length (y .bytes)) (getD-set-other ps p q x no-page ne) ∙ s .whole q l)
         (cases-eq q p)
 
-    pub parted-again : Parted ps′ cs′ n
-    parted-again q =
+    once-again : Once ps′ cs′ n
+    once-again q =
         let F : ℕ → ℕ = λ o. times q (chain ps cs o) in
         let G : ℕ → ℕ = λ o. times q (chain ps′ cs′ o) in
         let fa : F a ≡ cond (eqb q p) 1 0 + times q tail = ap (times q) chain-a in
         let ga : G a ≡ times q tail = ap (times q) chain-from in
         let gb : G b ≡ cond (eqb q p) 1 0 + F b = ap (times q) chain-onto in
         total-move G F a b (suc n) (omega arith) (omega arith) apart (omega arith) (λ o l na nb. ap (times q) (chain-rest o (omega arith) na nb))
-        ∙ s .parted q
+        ∙ s .once q
 
-    pub counted-again : Counted cs′ n
+    counted-again : Counted cs′ n
     counted-again =
         let ga : size cs′ a ≡ size cs a - 1 = ap (λ c. c .pages) now-a in
         let gb : size cs′ b ≡ size cs b + 1 = ap (λ c. c .pages) now-b in
         total-move (size cs′) (size cs) a b (suc n) (omega arith) (omega arith) apart (omega (arith, some)) (λ o l na nb. ap (λ c. c .pages) (now-other o na nb))
         ∙ s .counted
+
+    -- what the chains hold
+    pub moved : (blocks-in ps′ cs′ a ≡ drop 1 (blocks-in ps cs a)) × (blocks-in ps′ cs′ b ≡ bs ∷ blocks-in ps cs b) × ((o : ℕ) → o ≤ n → (o ≡ a → ⊥) → (o ≡ b → ⊥) → blocks-in ps′ cs′ o ≡ blocks-in ps cs o)
+    moved = (from, onto, rest)
+
+    -- what the stock keeps
+    pub kept : length bs ≡ 16 → ((length ps′ ≡ 768) × (length cs′ ≡ 129) × (n ≤ 128)) × Whole ps′ × Once ps′ cs′ n × Counted cs′ n
+    kept long = (
+      (simp length-set (s .lengths .0), simp length-set (s .lengths .1), s .lengths .2),
+      whole-again long,
+      once-again,
+      counted-again,
+    )

@@ -12,7 +12,7 @@ use Rattle.std.proofs.shelf.Lists.{getD-set-same, getD-set-other, getD-replicat
 use Rattle.std.proofs.shelf.Tests.{cases-eq, eq-eqb, ne-eqb, lt-ltb, le-ltb, cond-true, cond-false}
 use Rattle.pages.specs.declared.page.Page.{Page}
 use Rattle.pages.specs.declared.page.Chain.{Chain}
-use Rattle.pages.specs.Chains.{page, fresh, linked, no-chain, size, chain, blocks-in, times, total, Parted, Counted}
+use Rattle.pages.specs.Chains.{page, fresh, linked, no-chain, size, chain, blocks-in, times, total, Once, Counted}
 use Rattle.pages.proofs.Totals.{total-none}
 
 -- a number below a is not counted from a on
@@ -63,8 +63,8 @@ module _ (ps : List Page) (n : ℕ) (all : (p : ℕ) → p < 768 → page ps p �
   pub start-blocks : (o : ℕ) → o < n → blocks-in ps (start n) o ≡ []
   start-blocks o l = ap (λ c. map (λ p. page ps p .bytes) (linked ps (c .pages) (c .first))) (bare o l)
 
-  pub start-parted : Parted ps (start n) n
-  start-parted p =
+  pub start-once : Once ps (start n) n
+  start-once p =
       let none = total-none (λ o. times p (chain ps (start n) o)) n (λ o l. ap (λ c. times p (linked ps (c .pages) (c .first))) (bare o l)) in
       let last : times p (chain ps (start n) n) ≡ cond (ltb p (6 * n)) 1 0 =
       ap (λ c. times p (linked ps (c .pages) (c .first))) free

@@ -56,8 +56,8 @@ abbrev pub Whole : List Page → Type 0
 Whole ps = (p : ℕ) → p < 768 → length (page ps p .bytes) ≡ 16
 
 -- each page below 6 × n stands in one of the chains 0 .. n, once; no other page stands in any
-abbrev pub Parted : List Page → List Chain → ℕ → Type 0
-Parted ps cs n = (p : ℕ) → total (λ o. times p (chain ps cs o)) (suc n) ≡ cond (ltb p (6 * n)) 1 0
+abbrev pub Once : List Page → List Chain → ℕ → Type 0
+Once ps cs n = (p : ℕ) → total (λ o. times p (chain ps cs o)) (suc n) ≡ cond (ltb p (6 * n)) 1 0
 
 -- the chains 0 .. n have 6 × n pages together
 abbrev pub Counted : List Chain → ℕ → Type 0

@@ -1,12 +1,15 @@
-// A store that keeps texts in chained pages.
+// The page store: texts in chained pages out of one stock.
 //
-// Job: cuts each text into pages of 16 bytes out of one stock of 6 × n pages, and gives the pages of a
-// replaced text back before it takes new ones.
-// May use: tables.
-// Main promise: it answers as a store of n entries, and a lawful put never runs out of pages.
+// Job: a store of n entries, at most 128, that cuts each text into pages of 16 bytes out of a stock of 6 × n
+// pages, with no allocator. The pages of a replaced text go back to the stock and are used again.
+// May use: `tables`.
+// Main promise: the store reads and writes as the traits `Readable` and `Store` say of its table; a new store
+// has blank entries; and every page stands in one chain, so that a put that is not refused never runs out.
 
 mod moves;
 mod page;
+mod reading;
+mod start;
 mod stock;
 mod store;
 mod table;

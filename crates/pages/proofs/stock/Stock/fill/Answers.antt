@@ -58,7 +58,7 @@ returns c =
     let T : ℕ → Type 0 = λ n. take (length t - 16 * n) (joined (λ y. y) (blocks (c .loop-i .self) (c .args .e))) ≡ drop (16 * n) t in
     record {
       stays = v .0;
-      more = omega (arith, v .1);
+      pages = omega (arith, v .1);
       front = ap (λ m. take m (joined (λ y. y) (blocks (c .loop-i .self) (c .args .e)))) (let e : length t ≡ length t - 0 = omega arith in e) ∙ subst T none (v .4);
       rest = v .5;
     }

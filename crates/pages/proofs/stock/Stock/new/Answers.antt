@@ -1,6 +1,6 @@
 use mathlib.Core.Path.{refl, ap}
 use lib.ListN.{length}
-use Rattle.pages.proofs.Starts.{start-length, start-blocks, start-parted, start-counted}
+use Rattle.pages.proofs.Starts.{start-length, start-blocks, start-once, start-counted}
 use Rattle.pages.proofs.stock.Stock.new.Needs as need
 
 pub ghost-result : need.ghost-result
@@ -11,7 +11,7 @@ ghost-result c =
       (f .0, start-length ps n (f .1) (c .pre), c .pre),
       (
         (λ p l. ap (λ y. length (y .bytes)) (f .1 p l)),
-        (start-parted ps n (f .1) (c .pre), (start-counted ps n (f .1) (c .pre), tt)),
+        (start-once ps n (f .1) (c .pre), (start-counted ps n (f .1) (c .pre), tt)),
       ),
     )
 

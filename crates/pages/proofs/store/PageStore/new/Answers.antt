@@ -1,4 +1,5 @@
 use mathlib.Core.Path.{refl}
+use native.Mathlib.Omega.{arith}
 use Rattle.pages.proofs.Blanks.{fits-blank, table-blank}
 use Rattle.pages.proofs.store.PageStore.new.Needs as need
 
@@ -8,4 +9,4 @@ ghost-result c =
 
 pub returns : need.returns
 returns c =
-    (c .if-n-gt128 .left, table-blank (c .new .result) (c .args .n) _ (c .new .ensures .counted) (c .new .ensures .empty) refl refl refl)
+    (omega arith, table-blank (c .new .result) (c .args .n) _ (c .new .ensures .counted) (c .new .ensures .empty) refl refl refl)

@@ -14,6 +14,6 @@ returns c =
     let s = c .args .self .now in
     let e = c .args .e in
     let n = table-length s in (
-      λ l. ap (λ r. Ok (r .stamp .edition, r .stamp .hand)) (row-read s e (c .if-e-self .left) (c .index-self-e .result)) ∙ sym (ap (λ x. Ok (x .edition, x .hand)) (table-entry s e (c .if-e-self .left))),
+      λ l. ap (λ r. Ok (r .stamp .edition, r .stamp .hand)) (row-read s e (omega arith) (c .index-self-e .result)) ∙ sym (ap (λ x. Ok (x .edition, x .hand)) (table-entry s e (omega arith))),
       λ l. absurd (omega arith),
     )

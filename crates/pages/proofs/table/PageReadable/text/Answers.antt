@@ -18,9 +18,9 @@ returns c =
     let s = c .args .self .now in
     let e = c .args .e in
     let n = table-length s in
-    let len = ap (λ r. r .len) (row-read s e (c .if-e-self .left) (c .index-self-e .result)) in
+    let len = ap (λ r. r .len) (row-read s e (omega arith) (c .index-self-e .result)) in
     let same : getD (s .rows) e (c .index-self-e .result) .len - 0 ≡ row (s .rows) e .len = omega arith in
     let P : List ℕ → Type 0 = λ t. Front t (c .args .buf .now) (c .fill-front .result) (c .fill-front .last .buf) in (
-      λ l. subst P (text-read s e (c .if-e-self .left) (c .read-text .result) _ same (c .read-text .ensures)) (c .fill-front .ensures),
+      λ l. subst P (text-read s e (omega arith) (c .read-blocks .result) _ same (c .read-blocks .ensures)) (c .fill-front .ensures),
       λ l. absurd (omega arith),
     )

@@ -2,7 +2,7 @@ use native.Mathlib.Omega.{arith}
 use lib.ListN.{length-set}
 use Rattle.std.proofs.shelf.Edits.{fill-by-more}
 use Rattle.pages.specs.Chains.{no-page, fresh}
-use Rattle.pages.proofs.moves.fresh_pages.Needs as need
+use Rattle.pages.proofs.start.fresh_pages.Needs as need
 
 pub loop-p-again : need.loop-p-again
 loop-p-again c =
