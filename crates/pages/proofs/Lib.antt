@@ -1,0 +1,10 @@
+pub mod Totals
+pub mod Frames
+pub mod Shifts
+pub mod Rooms
+pub mod Cuts
+pub mod Starts
+pub mod Readings
+pub mod Puts
+pub mod Finds
+pub mod Blanks

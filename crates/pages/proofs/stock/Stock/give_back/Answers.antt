@@ -1,0 +1,51 @@
+use mathlib.Core.Path.{_≡_, refl, sym, ap, _∙_}
+use mathlib.Core.Logic.{⊎-elim}
+use Prim.Native.Nat.{ℕ, _<_, _≤_}
+use native.Mathlib.Omega.{arith}
+use borrow.Author.Needs.{needs}
+use lib.ListN.{length, length-drop}
+use Rattle.std.proofs.shelf.Lists.{nil-from-length}
+use Rattle.std.proofs.shelf.Tests.{cases-eq}
+use Rattle.pages.specs.Blocks.{blocks}
+use Rattle.pages.proofs.Frames.{blocks-length}
+use Rattle.pages.proofs.Rooms.{room}
+use Rattle.pages.proofs.stock.Stock.give_back.Needs as need
+
+pub shift-requires : need.shift-requires
+shift-requires c κs =
+    let s = c .loop-self .self in
+    let n = c .loop-self .inv .0 in
+    let sized = blocks-length (s .pages) (s .chains) (c .args .e) in
+    record {
+      a-in = omega (arith, c .pre .within);
+      b-in = omega arith;
+      apart = λ e. omega (arith, c .pre .within);
+      some = omega arith;
+    }
+
+pub loop-self-less : need.loop-self-less
+loop-self-less c =
+    let s = c .loop-self .self in
+    let sized = blocks-length (s .pages) (s .chains) (c .args .e) in
+    let fewer = ap length (c .shift .ensures .from) ∙ length-drop 1 (blocks s (c .args .e)) in
+    omega arith
+
+pub returns : need.returns
+returns c =
+    let s = c .loop-self .self in
+    let n = c .loop-self .inv .0 in
+    let sized = blocks-length (s .pages) (s .chains) (c .args .e) in
+    let none : length (blocks s (c .args .e)) ≡ 0 = omega arith in
+    let small : (o : ℕ) → o < s .count → length (blocks s o) ≤ 6 =
+    λ o l.
+    ⊎-elim
+    (λ e. let q = ap (λ x. length (blocks s x)) e in omega arith)
+    (λ ne. let q = ap length (c .loop-self .inv .1 o (omega arith) ne) in omega (arith, c .pre .small o (omega arith)))
+    (cases-eq o (c .args .e))
+    in
+    record {
+      stays = n;
+      none = nil-from-length (blocks s (c .args .e)) none;
+      room = room s (c .args .e) (omega (arith, c .pre .within)) none small;
+      rest = c .loop-self .inv .1;
+    }

@@ -1,0 +1,31 @@
+use mathlib.Core.Path.{_≡_, refl}
+use borrow.Author.Needs.{needs}
+use lib.ListN.{length}
+use Rattle.pages.proofs.Shifts.{first-in, size-in, moved, kept}
+use Rattle.pages.proofs.stock.Stock.shift.Needs as need
+
+pub offset-self-p : need.offset-self-p
+offset-self-p c = let l = first-in (c .args .self .now) (c .args .a) (c .pre .a-in) (c .pre .some) in search needs
+
+pub index-self-p : need.index-self-p
+index-self-p c = first-in (c .args .self .now) (c .args .a) (c .pre .a-in) (c .pre .some)
+
+pub offset-self-p-2 : need.offset-self-p-2
+offset-self-p-2 c = let l = first-in (c .args .self .now) (c .args .a) (c .pre .a-in) (c .pre .some) in search needs
+
+pub index-self-p-2 : need.index-self-p-2
+index-self-p-2 c = first-in (c .args .self .now) (c .args .a) (c .pre .a-in) (c .pre .some)
+
+pub add-self : need.add-self
+add-self c = let l = size-in (c .args .self .now) (c .args .b) (c .pre .b-in) in search needs
+
+pub ghost-self : need.ghost-self
+ghost-self c =
+    let long : length (c .args .block) ≡ 16 = search needs in
+    let k = kept (c .args .self .now) (c .args .a) (c .pre .a-in) (c .pre .some) (c .args .b) (c .args .block) (c .pre .b-in) (c .pre .apart) long in
+    (k .0, (k .1, (k .2, (k .3, tt))))
+
+pub returns : need.returns
+returns c =
+    let m = moved (c .args .self .now) (c .args .a) (c .pre .a-in) (c .pre .some) (c .args .b) (c .args .block) (c .pre .b-in) (c .pre .apart) in
+    record { stays = refl; from = m .0; onto = m .1; rest = m .2 }
