@@ -1,3 +1,4 @@
 pub mod Said
 pub mod Listing
 pub mod Faults
+pub mod Loaded

@@ -6,12 +6,15 @@
 // other line is told with its number and its fault, and changes nothing.
 
 pub mod line;
-mod load;
+pub mod load;
 pub mod survey;
 
 pub use line::Item;
 pub use line::LineFault;
 pub use line::parse_line;
+pub use load::Catalogue;
+pub use load::LoadFault;
+pub use load::load_listing;
 pub use survey::BadLine;
 pub use survey::Survey;
 pub use survey::survey_listing;
