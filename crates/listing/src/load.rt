@@ -40,7 +40,7 @@ fn fill<S: Store>(listing: &[u8], to: &mut S) -> Result<(), Refusal>
     ensures after { λ _. ⌜ S·Readable .table (now (to .exit)) ≡ listed (lines (now (listing .entry))) ⌝ }
 {
     let mut text = listing;
-    let mut e = 0;
+    let mut e: usize = 0;
     while let Some(first) = split_line(text) {
         if let Ok(item) = parse_line(first.line) {
             put_item(to, e, &item)?;
