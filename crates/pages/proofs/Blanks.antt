@@ -1,17 +1,16 @@
 -- A store without pages in its entries' chains, and with rows of no length and stamps 0 and 0, is blank.
-use mathlib.Core.Path.{_≡_, refl, sym, ap, _∙_}
-use mathlib.Core.List.{List, []}
-use Prim.Native.Nat.{ℕ, _+_, _/_, _<_, _≤_}
+use mathlib.Core.Path.{_≡_, sym, ap, _∙_}
+use mathlib.Core.List.{[]}
+use Prim.Native.Nat.{ℕ, _<_}
 use native.Mathlib.Omega.{arith}
-use lib.ListN.{length, getD, replicate, take}
+use lib.ListN.{length, replicate, take}
 use Rattle.std.specs.Joined.{joined}
 use Rattle.std.proofs.shelf.Counted.{length-map-counting, getD-map-counting}
-use Rattle.std.proofs.shelf.Lists.{getD-replicate, length-replicate, ext-getD, take-all}
+use Rattle.std.proofs.shelf.Lists.{getD-replicate, length-replicate, ext-getD}
 use Rattle.tables.specs.Tables.{of, blank}
 use Rattle.pages.specs.declared.stock.Stock.{Stock}
 use Rattle.pages.specs.declared.store.Row.{Row}
 use Rattle.pages.specs.Blocks.{blocks}
-use Rattle.pages.specs.Chains.{size}
 use Rattle.pages.specs.Rows.{no-row, row, Fits}
 use Rattle.pages.specs.Entries.{entry-of, entries}
 use Rattle.pages.proofs.Frames.{blocks-length}

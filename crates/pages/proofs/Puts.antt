@@ -1,5 +1,5 @@
 -- A text and a stamp are put into an entry: what the store keeps, and its table then.
-use mathlib.Core.Path.{_≡_, refl, sym, ap, _∙_}
+use mathlib.Core.Path.{_≡_, sym, ap, _∙_}
 use mathlib.Core.Logic.{⊎-elim}
 use mathlib.Core.List.{List}
 use Prim.Native.Nat.{ℕ, _+_, _/_, _<_, _≤_}
@@ -15,7 +15,6 @@ use Rattle.pages.specs.declared.stock.Stock.{Stock}
 use Rattle.pages.specs.declared.store.Row.{Row}
 use Rattle.pages.specs.declared.store.PageStore.{PageStore}
 use Rattle.pages.specs.Blocks.{blocks}
-use Rattle.pages.specs.Chains.{size}
 use Rattle.pages.specs.Rows.{no-row, row, Fits}
 use Rattle.pages.specs.Entries.{entry-of, entries, table-of}
 use Rattle.pages.specs.Laws.{table-length, table-entry}
@@ -41,8 +40,14 @@ table-set s st rs e x stays l here rest =
     (λ ne. at ∙ rest k (omega arith) ne ∙ sym (getD-set-other (table-of s) e k x blank ne ∙ table-entry s k (omega arith)))
     (cases-eq k e))
 
--- the stock of s has become st, whose chain e has the text
-module _ (s : PageStore) (st : Stock) (e : ℕ) (text : List ℕ) (stamp : Stamp) (stays : st .count ≡ s .stock .count) (within : e < s .stock .count) (short : length text ≤ 96) (pages : length (blocks st e) ≡ (length text + 15) / 16) (front : take (length text) (joined (λ x. x) (blocks st e)) ≡ text) (rest : (o : ℕ) → o < s .stock .count → (o ≡ e → ⊥) → blocks st o ≡ blocks (s .stock) o) where
+-- the stock st holds a text in chain e, and what the stock of s held in the others
+pub record Replaced (s : PageStore) (st : Stock) (e : ℕ) (text : List ℕ) : Type 0 where
+  pub stays : st .count ≡ s .stock .count
+  pub pages : length (blocks st e) ≡ (length text + 15) / 16
+  pub front : take (length text) (joined (λ x. x) (blocks st e)) ≡ text
+  pub rest : (o : ℕ) → o < s .stock .count → (o ≡ e → ⊥) → blocks st o ≡ blocks (s .stock) o
+
+module _ (s : PageStore) (st : Stock) (e : ℕ) (text : List ℕ) (stamp : Stamp) (r : Replaced s st e text) (within : e < s .stock .count) (short : length text ≤ 96) where
   -- the rows as they are written
   abbrev rs : List Row
   rs = set (s .rows) e (record { len = length text; stamp = stamp })
@@ -61,14 +66,14 @@ module _ (s : PageStore) (st : Stock) (e : ℕ) (text : List ℕ) (stamp : Stamp
       let sized = blocks-length (st .pages) (st .chains) o in
       ⊎-elim
       (λ q.
-      let len : row rs o .len ≡ length text = ap (λ j. row rs j .len) q ∙ ap (λ r. r .len) row-here in
+      let len : row rs o .len ≡ length text = ap (λ j. row rs j .len) q ∙ ap (λ y. y .len) row-here in
       let same = ap (λ j. length (blocks st j)) q in
       (omega arith, omega arith))
       (λ ne.
-      let len : row rs o .len ≡ row (s .rows) o .len = ap (λ r. r .len) (row-rest o ne) in
-      let same = ap length (rest o (omega arith) ne) in
+      let len : row rs o .len ≡ row (s .rows) o .len = ap (λ y. y .len) (row-rest o ne) in
+      let same = ap length (r .rest o (omega (arith, r .stays)) ne) in
       let was = blocks-length (s .stock .pages) (s .stock .chains) o in
-      let f = s .fits o (omega arith) in
+      let f = s .fits o (omega (arith, r .stays)) in
       (omega arith, omega arith))
       (cases-eq o e)
 
@@ -79,8 +84,8 @@ module _ (s : PageStore) (st : Stock) (e : ℕ) (text : List ℕ) (stamp : Stamp
   -- its table
   pub put-table : entries st rs ≡ set (table-of s) e (of text (stamp .edition) (stamp .hand))
   put-table =
-      table-set s st rs e (of text (stamp .edition) (stamp .hand)) stays within
-      (ap (λ r. of (take (r .len) (joined (λ x. x) (blocks st e))) (r .stamp .edition) (r .stamp .hand)) row-here ∙ ap (λ t. of t (stamp .edition) (stamp .hand)) front)
+      table-set s st rs e (of text (stamp .edition) (stamp .hand)) (r .stays) within
+      (ap (λ y. of (take (y .len) (joined (λ x. x) (blocks st e))) (y .stamp .edition) (y .stamp .hand)) row-here ∙ ap (λ t. of t (stamp .edition) (stamp .hand)) (r .front))
       (λ o l ne.
-      ap (λ r. of (take (r .len) (joined (λ x. x) (blocks st o))) (r .stamp .edition) (r .stamp .hand)) (row-rest o ne)
-      ∙ ap (λ b. of (take (row (s .rows) o .len) (joined (λ x. x) b)) (row (s .rows) o .stamp .edition) (row (s .rows) o .stamp .hand)) (rest o l ne))
+      ap (λ y. of (take (y .len) (joined (λ x. x) (blocks st o))) (y .stamp .edition) (y .stamp .hand)) (row-rest o ne)
+      ∙ ap (λ b. of (take (row (s .rows) o .len) (joined (λ x. x) b)) (row (s .rows) o .stamp .edition) (row (s .rows) o .stamp .hand)) (r .rest o l ne))

@@ -12,7 +12,7 @@ use Rattle.std.proofs.shelf.Lists.{getD-set-same, getD-set-other, getD-replicat
 use Rattle.std.proofs.shelf.Tests.{cases-eq, eq-eqb, ne-eqb, lt-ltb, le-ltb, cond-true, cond-false}
 use Rattle.pages.specs.declared.page.Page.{Page}
 use Rattle.pages.specs.declared.page.Chain.{Chain}
-use Rattle.pages.specs.Chains.{page, fresh, linked, no-chain, size, chain, blocks-in, times, total, Once, Counted}
+use Rattle.pages.specs.Chains.{page, fresh, linked, no-chain, size, chain, blocks-in, times, Once, Counted}
 use Rattle.pages.proofs.Totals.{total-none}
 
 -- a number below a is not counted from a on
