@@ -13,6 +13,7 @@ use Rattle.pages.specs.Chains.{page, linked, no-chain, size, chain, times, tot
 use Rattle.pages.proofs.Totals.{total-one, total-two}
 use Rattle.pages.proofs.Frames.{times-here, blocks-length}
 
+-- a number that is 1 or 0
 one-at-most : (b : Bool) → cond b 1 0 ≤ 1
 one-at-most true = omega arith
 one-at-most false = omega arith
@@ -47,6 +48,7 @@ first s a = getD (s .chains) a no-chain .first
 abbrev pub tail : Stock → ℕ → List ℕ
 tail s a = linked (s .pages) (size (s .chains) a - 1) (page (s .pages) (first s a) .next)
 
+-- a chain that has pages is its first page and the others
 module _ (s : Stock) (a : ℕ) (la : a ≤ s .count) (held : 0 < length (blocks s a)) where
   pub some : 0 < size (s .chains) a
   some = let e = blocks-length (s .pages) (s .chains) a in omega (arith, held)
@@ -55,16 +57,18 @@ module _ (s : Stock) (a : ℕ) (la : a ≤ s .count) (held : 0 < length (blocks 
   first-tail =
       ap (λ k. linked (s .pages) k (first s a)) (let e : size (s .chains) a ≡ suc (size (s .chains) a - 1) = omega (arith, some) in e)
 
+  -- its first page stands in it, so it is one of the array's
   at-a : in-chain s (first s a) a ≡ 1 + times (first s a) (tail s a)
   at-a = ap (times (first s a)) first-tail ∙ times-here (first s a) (tail s a)
 
   pub first-in : first s a < 768
   first-in = let e = at-a in page-in s a (first s a) la (omega arith)
 
+  -- it stands in all chains together at most once
   in-all : total (in-chain s (first s a)) (suc (s .count)) ≤ 1
   in-all = let e = s .once (first s a) in let m = one-at-most (ltb (first s a) (6 * s .count)) in omega arith
 
-  -- the first page of a stands in a once
+  -- so it does not stand in the others of a,
   pub off-tail : times (first s a) (tail s a) ≡ 0
   off-tail =
       let e = at-a in
@@ -72,7 +76,7 @@ module _ (s : Stock) (a : ℕ) (la : a ≤ s .count) (held : 0 < length (blocks 
       let t = in-all in
       omega arith
 
-  -- and in no other chain
+  -- nor in another chain
   pub off-other : (o : ℕ) → o ≤ s .count → (o ≡ a → ⊥) → times (first s a) (chain (s .pages) (s .chains) o) ≡ 0
   off-other o l ne =
       let e = at-a in

@@ -21,19 +21,23 @@ left s e i p = linked (s .pages) (size (s .chains) e - i) p
 abbrev pub bytes-of : Stock → List ℕ → List ℕ
 bytes-of s l = joined (λ x. x) (map (λ q. page (s .pages) q .bytes) l)
 
+-- the pages that are left stand in chain e, and there is one
 module _ (s : Stock) (e i p : ℕ) (l : e ≤ s .count) (more : i < size (s .chains) e) (within : (q : ℕ) → times q (left s e i p) ≤ times q (chain (s .pages) (s .chains) e)) where
   abbrev next : ℕ
   next = page (s .pages) p .next
 
+  -- it is p, and the others follow
   left-more : left s e i p ≡ p ∷ left s e (i + 1) next
   left-more =
       ap (λ k. linked (s .pages) k p) (let q : size (s .chains) e - i ≡ suc (size (s .chains) e - (i + 1)) = omega (arith, more) in q)
 
+  -- it is one of the array's
   pub page-here : p < 768
   page-here =
       let here = ap (times p) left-more ∙ times-here p (left s e (i + 1) next) in
       page-in s e p l (omega (arith, within p))
 
+  -- the others stand in chain e too
   pub within-more : (q : ℕ) → times q (left s e (i + 1) next) ≤ times q (chain (s .pages) (s .chains) e)
   within-more q = let here = ap (times q) left-more in omega (arith, within q)
 

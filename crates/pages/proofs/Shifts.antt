@@ -51,9 +51,11 @@ module _ (s : Stock) (a b : ℕ) (bs : List ℕ) (la : a ≤ s .count) (lb : b �
   abbrev cs′ : List Chain
   cs′ = set (set cs a less) b more
 
+  -- b has no page p before the move
   off-b : times p (chain ps cs b) ≡ 0
   off-b = off-other s a la held b lb (λ e. apart (sym e))
 
+  -- what stands at each place after it
   at-p : page ps′ p ≡ x
   at-p = getD-set-same ps p x no-page (let l = first-in s a la held in omega (arith, s .lengths .0))
 
@@ -102,10 +104,11 @@ module _ (s : Stock) (a b : ℕ) (bs : List ℕ) (la : a ≤ s .count) (lb : b �
       ap (map (λ q. page ps′ q .bytes)) (chain-rest o l na nb)
       ∙ bytes-frame ps p x (chain ps cs o) (off-other s a la held o l na)
 
+  -- all of these
   pub moved : (blocks-in ps′ cs′ a ≡ drop 1 (blocks-in ps cs a)) × (blocks-in ps′ cs′ b ≡ bs ∷ blocks-in ps cs b) × ((o : ℕ) → o ≤ n → (o ≡ a → ⊥) → (o ≡ b → ⊥) → blocks-in ps′ cs′ o ≡ blocks-in ps cs o)
   moved = (from, onto, rest)
 
-  -- what the stock keeps
+  -- every page is whole
   whole : length bs ≡ 16 → Whole ps′
   whole long q l =
       ⊎-elim
@@ -124,6 +127,7 @@ module _ (s : Stock) (a b : ℕ) (bs : List ℕ) (la : a ≤ s .count) (lb : b �
       total-move G F a b (suc n) (omega arith) (omega arith) apart (omega arith) (λ o l na nb. ap (times q) (chain-rest o (omega arith) na nb))
       ∙ s .once q
 
+  -- and as many pages
   counted : Counted cs′ n
   counted =
       let ga : size cs′ a ≡ size cs a - 1 = ap (λ c. c .pages) at-a in
@@ -131,10 +135,6 @@ module _ (s : Stock) (a b : ℕ) (bs : List ℕ) (la : a ≤ s .count) (lb : b �
       total-move (size cs′) (size cs) a b (suc n) (omega arith) (omega arith) apart (omega (arith, some s a la held)) (λ o l na nb. ap (λ c. c .pages) (at-other o na nb))
       ∙ s .counted
 
-  pub kept : length bs ≡ 16 → ((length ps′ ≡ 768) × (length cs′ ≡ 129) × (n ≤ 128)) × Whole ps′ × Once ps′ cs′ n × Counted cs′ n
-  kept long = (
-    (simp length-set (s .lengths .0), simp length-set (s .lengths .1), s .lengths .2),
-    whole long,
-    once,
-    counted,
-  )
+  -- what the stock keeps
+  pub kept : length bs ≡ 16 → Whole ps′ × Once ps′ cs′ n × Counted cs′ n
+  kept long = (whole long, once, counted)
