@@ -12,6 +12,7 @@ use Rattle.pages.specs.declared.page.Page.{Page}
 use Rattle.pages.specs.declared.page.Chain.{Chain}
 use Rattle.pages.specs.Chains.{no-page, page, linked, no-chain, size, chain, blocks-in, times}
 
+-- the first of a list stands in it once more than in the rest
 pub times-here : (p : ℕ) (l : List ℕ) → times p (p ∷ l) ≡ 1 + times p l
 times-here p l = ap (λ n. n + times p l) (cond-true (eqb p p) 1 0 (eq-eqb p p refl))
 
@@ -20,6 +21,7 @@ pub times-none : (p q : ℕ) (l : List ℕ) → times p (q ∷ l) ≡ 0 → (q �
 times-none p q l e =
     (λ s. let t : _≡_ {A = ℕ} (cond (eqb p q) 1 0) 1 = cond-true (eqb p q) 1 0 (eq-eqb p q (sym s)) in omega arith, omega arith)
 
+-- a chain keeps its pages
 pub linked-frame : (ps : List Page) (p : ℕ) (x : Page) (k h : ℕ) → times p (linked ps k h) ≡ 0 → linked (set ps p x) k h ≡ linked ps k h
 linked-frame ps p x zero h e = refl
 linked-frame ps p x (suc k) h e =
@@ -27,6 +29,7 @@ linked-frame ps p x (suc k) h e =
     let same : page (set ps p x) h ≡ page ps h = getD-set-other ps p h x no-page (off .0) in
     ap (λ y. h ∷ linked (set ps p x) k (y .next)) same ∙ ap (λ t. h ∷ t) (linked-frame ps p x k (page ps h .next) (off .1))
 
+-- and these their bytes
 pub bytes-frame : (ps : List Page) (p : ℕ) (x : Page) (l : List ℕ) → times p l ≡ 0 → map (λ q. page (set ps p x) q .bytes) l ≡ map (λ q. page ps q .bytes) l
 bytes-frame ps p x [] e = refl
 bytes-frame ps p x (q ∷ l) e =

@@ -1,5 +1,6 @@
 pub mod Totals
 pub mod Frames
+pub mod Holders
 pub mod Shifts
 pub mod Rooms
 pub mod Cuts

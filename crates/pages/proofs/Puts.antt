@@ -1,5 +1,5 @@
 -- A text and a stamp are put into an entry: what the store keeps, and its table then.
-use mathlib.Core.Path.{_≡_, refl, sym, ap, _∙_}
+use mathlib.Core.Path.{_≡_, sym, ap, subst, _∙_}
 use mathlib.Core.Logic.{⊎-elim}
 use mathlib.Core.List.{List}
 use Prim.Native.Nat.{ℕ, _+_, _/_, _<_, _≤_}
@@ -28,21 +28,38 @@ small s o l =
     omega (arith, s .fits o l .0, s .fits o l .1)
 
 -- a table with another entry at e
-table-set : (s : PageStore) (st : Stock) (rs : List Row) (e : ℕ) (x : Entry) → st .count ≡ s .stock .count → e < s .stock .count → entry-of st rs e ≡ x → ((o : ℕ) → o < s .stock .count → (o ≡ e → ⊥) → entry-of st rs o ≡ entry-of (s .stock) (s .rows) o) → entries st rs ≡ set (table-of s) e x
-table-set s st rs e x stays l here rest =
-    let n = length-map-counting (entry-of st rs) 0 (st .count) in
-    let m = table-length s in
-    ext-getD blank (entries st rs) (set (table-of s) e x)
-    (simp length-set (omega arith))
-    (λ k h.
-    let at : getD (entries st rs) k blank ≡ entry-of st rs k = getD-map-counting (entry-of st rs) 0 (st .count) k k blank (omega arith) (omega arith) in
-    ⊎-elim
-    (λ q. at ∙ ap (entry-of st rs) q ∙ here ∙ sym (ap (λ j. getD (set (table-of s) e x) j blank) q ∙ getD-set-same (table-of s) e x blank (omega arith)))
-    (λ ne. at ∙ rest k (omega arith) ne ∙ sym (getD-set-other (table-of s) e k x blank ne ∙ table-entry s k (omega arith)))
-    (cases-eq k e))
+module _ (s : PageStore) (st : Stock) (rs : List Row) (e : ℕ) (x : Entry) (stays : st .count ≡ s .stock .count) (within : e < s .stock .count) (here : entry-of st rs e ≡ x) (rest : (o : ℕ) → o < s .stock .count → (o ≡ e → ⊥) → entry-of st rs o ≡ entry-of (s .stock) (s .rows) o) where
+  at-here : entry-of st rs e ≡ getD (set (table-of s) e x) e blank
+  at-here = here ∙ sym (getD-set-same (table-of s) e x blank (let n = table-length s in omega arith))
 
--- the stock of s has become st, whose chain e has the text
-module _ (s : PageStore) (st : Stock) (e : ℕ) (text : List ℕ) (stamp : Stamp) (stays : st .count ≡ s .stock .count) (within : e < s .stock .count) (short : length text ≤ 96) (pages : length (blocks st e) ≡ (length text + 15) / 16) (front : take (length text) (joined (λ x. x) (blocks st e)) ≡ text) (rest : (o : ℕ) → o < s .stock .count → (o ≡ e → ⊥) → blocks st o ≡ blocks (s .stock) o) where
+  at-rest : (o : ℕ) → o < s .stock .count → (o ≡ e → ⊥) → entry-of st rs o ≡ getD (set (table-of s) e x) o blank
+  at-rest o l ne = rest o l ne ∙ sym (getD-set-other (table-of s) e o x blank ne ∙ table-entry s o l)
+
+  at-each : (o : ℕ) → o < s .stock .count → entry-of st rs o ≡ getD (set (table-of s) e x) o blank
+  at-each o l =
+      ⊎-elim
+      (λ q. ap (entry-of st rs) q ∙ at-here ∙ ap (λ j. getD (set (table-of s) e x) j blank) (sym q))
+      (λ ne. at-rest o l ne)
+      (cases-eq o e)
+
+  as-many : length (entries st rs) ≡ length (set (table-of s) e x)
+  as-many =
+      length-map-counting (entry-of st rs) 0 (st .count) ∙ stays ∙ sym (length-set (table-of s) e x ∙ table-length s)
+
+  table-set : entries st rs ≡ set (table-of s) e x
+  table-set =
+      let n = length-map-counting (entry-of st rs) 0 (st .count) in
+      ext-getD blank (entries st rs) (set (table-of s) e x) as-many (λ o h. getD-map-counting (entry-of st rs) 0 (st .count) o o blank (omega arith) (omega arith) ∙ at-each o (omega arith))
+
+-- the stock st holds a text in chain e, and what the stock of s held in the others
+pub record Replaced (s : PageStore) (st : Stock) (e : ℕ) (text : List ℕ) : Type 0 where
+  pub stays : st .count ≡ s .stock .count
+  pub pages : length (blocks st e) ≡ (length text + 15) / 16
+  pub front : take (length text) (joined (λ x. x) (blocks st e)) ≡ text
+  pub rest : (o : ℕ) → o < s .stock .count → (o ≡ e → ⊥) → blocks st o ≡ blocks (s .stock) o
+
+-- the rows get the text's length and its stamp
+module _ (s : PageStore) (st : Stock) (e : ℕ) (text : List ℕ) (stamp : Stamp) (r : Replaced s st e text) (within : e < s .stock .count) (short : length text ≤ 96) where
   -- the rows as they are written
   abbrev rs : List Row
   rs = set (s .rows) e (record { len = length text; stamp = stamp })
@@ -53,34 +70,37 @@ module _ (s : PageStore) (st : Stock) (e : ℕ) (text : List ℕ) (stamp : Stamp
   row-rest : (o : ℕ) → (o ≡ e → ⊥) → row rs o ≡ row (s .rows) o
   row-rest o ne = getD-set-other (s .rows) e o _ no-row ne
 
-  wide-again : length rs ≡ 128
-  wide-again = length-set (s .rows) e (record { len = length text; stamp = stamp }) ∙ s .wide
+  fits-here : (row rs e .len ≤ 96) × (size (st .chains) e ≡ (row rs e .len + 15) / 16)
+  fits-here =
+      let len : row rs e .len ≡ length text = ap (λ y. y .len) row-here in
+      let sized = blocks-length (st .pages) (st .chains) e in
+      (omega arith, omega (arith, r .pages))
 
-  fits-again : Fits (st .chains) (st .count) rs
-  fits-again o l =
+  fits-rest : (o : ℕ) → o < s .stock .count → (o ≡ e → ⊥) → (row rs o .len ≤ 96) × (size (st .chains) o ≡ (row rs o .len + 15) / 16)
+  fits-rest o l ne =
+      let len : row rs o .len ≡ row (s .rows) o .len = ap (λ y. y .len) (row-rest o ne) in
+      let same = ap length (r .rest o l ne) in
       let sized = blocks-length (st .pages) (st .chains) o in
-      ⊎-elim
-      (λ q.
-      let len : row rs o .len ≡ length text = ap (λ j. row rs j .len) q ∙ ap (λ r. r .len) row-here in
-      let same = ap (λ j. length (blocks st j)) q in
-      (omega arith, omega arith))
-      (λ ne.
-      let len : row rs o .len ≡ row (s .rows) o .len = ap (λ r. r .len) (row-rest o ne) in
-      let same = ap length (rest o (omega arith) ne) in
       let was = blocks-length (s .stock .pages) (s .stock .chains) o in
-      let f = s .fits o (omega arith) in
-      (omega arith, omega arith))
-      (cases-eq o e)
+      let f = s .fits o l in
+      (omega arith, omega arith)
 
   -- what the store keeps
-  pub kept : (length rs ≡ 128) × Fits (st .chains) (st .count) rs
-  kept = (wide-again, fits-again)
+  pub fits-again : Fits (st .chains) (st .count) rs
+  fits-again o l =
+      let P : ℕ → Type 0 = λ j. (row rs j .len ≤ 96) × (size (st .chains) j ≡ (row rs j .len + 15) / 16) in
+      ⊎-elim (λ q. subst P (sym q) fits-here) (λ ne. fits-rest o (omega (arith, r .stays)) ne) (cases-eq o e)
+
+  entry-here : entry-of st rs e ≡ of text (stamp .edition) (stamp .hand)
+  entry-here =
+      ap (λ y. of (take (y .len) (joined (λ x. x) (blocks st e))) (y .stamp .edition) (y .stamp .hand)) row-here
+      ∙ ap (λ t. of t (stamp .edition) (stamp .hand)) (r .front)
+
+  entry-rest : (o : ℕ) → o < s .stock .count → (o ≡ e → ⊥) → entry-of st rs o ≡ entry-of (s .stock) (s .rows) o
+  entry-rest o l ne =
+      ap (λ y. of (take (y .len) (joined (λ x. x) (blocks st o))) (y .stamp .edition) (y .stamp .hand)) (row-rest o ne)
+      ∙ ap (λ b. of (take (row (s .rows) o .len) (joined (λ x. x) b)) (row (s .rows) o .stamp .edition) (row (s .rows) o .stamp .hand)) (r .rest o l ne)
 
   -- its table
   pub put-table : entries st rs ≡ set (table-of s) e (of text (stamp .edition) (stamp .hand))
-  put-table =
-      table-set s st rs e (of text (stamp .edition) (stamp .hand)) stays within
-      (ap (λ r. of (take (r .len) (joined (λ x. x) (blocks st e))) (r .stamp .edition) (r .stamp .hand)) row-here ∙ ap (λ t. of t (stamp .edition) (stamp .hand)) front)
-      (λ o l ne.
-      ap (λ r. of (take (r .len) (joined (λ x. x) (blocks st o))) (r .stamp .edition) (r .stamp .hand)) (row-rest o ne)
-      ∙ ap (λ b. of (take (row (s .rows) o .len) (joined (λ x. x) b)) (row (s .rows) o .stamp .edition) (row (s .rows) o .stamp .hand)) (rest o l ne))
+  put-table = table-set s st rs e (of text (stamp .edition) (stamp .hand)) (r .stays) within entry-here entry-rest

@@ -1,6 +1,6 @@
 -- The table of a page store is lawful.
-use mathlib.Core.Path.{_≡_, sym, subst, _∙_}
-use Prim.Native.Nat.{ℕ, _≤_, _<_}
+use mathlib.Core.Path.{_≡_, sym, subst}
+use Prim.Native.Nat.{ℕ, _<_}
 use native.Mathlib.Omega.{arith}
 use lib.ListN.{length, length-take}
 use Rattle.std.proofs.shelf.Counted.{length-map-counting, getD-map-counting}
@@ -17,11 +17,13 @@ table-length s = length-map-counting (entry-of (s .stock) (s .rows)) 0 (s .stock
 pub table-entry : (s : PageStore) (e : ℕ) → e < s .stock .count → entry (table-of s) e ≡ entry-of (s .stock) (s .rows) e
 table-entry s e l = getD-map-counting (entry-of (s .stock) (s .rows)) 0 (s .stock .count) e e blank l (omega arith)
 
+-- what its row says is lawful
 entry-lawful : (s : PageStore) (e : ℕ) → e < s .stock .count → Lawful-entry (entry-of (s .stock) (s .rows) e)
 entry-lawful s e l =
     let stamp = row (s .rows) e .stamp .lawful in
     (simp length-take (omega (arith, s .fits e l .0)), (stamp .0, stamp .1))
 
+-- so the table is lawful
 pub table-lawful : (s : PageStore) → Lawful (table-of s)
 table-lawful s =
     let n = table-length s in

@@ -20,8 +20,8 @@ fn fresh_pages() -> [Page; MOST_PAGES]
         bytes: [0; PAGE],
         next: 0,
     }; MOST_PAGES];
-    for p in 0..MOST_PAGES {
-        pages[p] = Page {
+    for (p, page) in pages.iter_mut().enumerate() {
+        *page = Page {
             bytes: [0; PAGE],
             next: p + 1,
         };

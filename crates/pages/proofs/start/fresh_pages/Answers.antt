@@ -7,4 +7,4 @@ use Rattle.pages.proofs.start.fresh_pages.Needs as need
 pub loop-p-again : need.loop-p-again
 loop-p-again c =
     let v = c .loop-p .inv in
-    (simp length-set (v .0), fill-by-more fresh (c .loop-p .pages) (c .loop-p .p) no-page (omega (arith, v .0)) (v .1))
+    (simp length-set (v .0), fill-by-more fresh (c .loop-p .page-items) (c .loop-p .p) no-page (omega (arith, v .0)) (v .1))

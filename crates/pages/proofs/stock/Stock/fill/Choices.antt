@@ -5,6 +5,7 @@ use Rattle.std.specs.Joined.{joined}
 use Rattle.pages.specs.Blocks.{blocks}
 use Rattle.pages.proofs.stock.Stock.fill.Given as given
 
+-- the blocks from i on stand at the front of the chain, and i pages at least are free
 abbrev pub Inv-loop-i : given.InvT-loop-i
 Inv-loop-i l =
     (l .self .count ≡ l .entry .self .count)

@@ -1,11 +1,7 @@
-use mathlib.Core.Path.{_≡_, refl, sym, ap, _∙_}
-use mathlib.Core.Logic.{⊎-elim}
-use Prim.Native.Nat.{ℕ, _<_, _≤_}
+use mathlib.Core.Path.{_≡_, ap, _∙_}
 use native.Mathlib.Omega.{arith}
-use borrow.Author.Needs.{needs}
 use lib.ListN.{length, length-drop}
 use Rattle.std.proofs.shelf.Lists.{nil-from-length}
-use Rattle.std.proofs.shelf.Tests.{cases-eq}
 use Rattle.pages.specs.Blocks.{blocks}
 use Rattle.pages.proofs.Frames.{blocks-length}
 use Rattle.pages.proofs.Rooms.{room}
@@ -33,19 +29,12 @@ loop-self-less c =
 pub returns : need.returns
 returns c =
     let s = c .loop-self .self in
-    let n = c .loop-self .inv .0 in
+    let v = c .loop-self .inv in
     let sized = blocks-length (s .pages) (s .chains) (c .args .e) in
     let none : length (blocks s (c .args .e)) ≡ 0 = omega arith in
-    let small : (o : ℕ) → o < s .count → length (blocks s o) ≤ 6 =
-    λ o l.
-    ⊎-elim
-    (λ e. let q = ap (λ x. length (blocks s x)) e in omega arith)
-    (λ ne. let q = ap length (c .loop-self .inv .1 o (omega arith) ne) in omega (arith, c .pre .small o (omega arith)))
-    (cases-eq o (c .args .e))
-    in
     record {
-      stays = n;
+      stays = v .0;
       none = nil-from-length (blocks s (c .args .e)) none;
-      room = room s (c .args .e) (omega (arith, c .pre .within)) none small;
-      rest = c .loop-self .inv .1;
+      room = room (c .args .self .now) s (c .args .e) (c .pre .within) (v .0) none (v .1) (c .pre .small);
+      rest = v .1;
     }
