@@ -1,3 +1,4 @@
 pub mod Cutting
+pub mod Hexing
 pub mod Lining
 pub mod Reading

@@ -1,9 +1,10 @@
 // Words and numbers in lines of text.
 //
-// Job: cuts bytes at the first separator, and reads decimal numbers.
+// Job: cuts bytes at the first separator and texts into lines, and reads decimal numbers and bytes in
+// hexadecimal digits.
 // May use: std alone.
 // Main promise: a cut answers exactly what stands before and after the first separator; a number is read
-// exactly from one to nineteen decimal digits.
+// exactly from one to nineteen decimal digits, and bytes exactly from two hexadecimal digits each.
 ghost use mathlib.Core.Path.{_≡_};
 ghost use mathlib.Core.List.{[], _∷_};
 ghost use Prim.Native.Nat.{_≤_, _<_};
@@ -14,6 +15,10 @@ ghost use Rattle.std.specs.Text.{digitValue};
 ghost use Rattle.words.specs.Cuts.{before, after, after-or-none};
 ghost use Rattle.words.specs.Lines.{lines};
 ghost use Rattle.words.specs.Numbers.{number-of};
+
+pub mod hex;
+
+pub use hex::hex_bytes;
 
 // The most digits that a number may have: every such number fits 64 bits.
 const MOST_DIGITS: usize = 19;
