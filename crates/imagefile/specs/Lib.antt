@@ -1,0 +1,4 @@
+pub mod Shown
+pub mod Rules
+pub mod Faults
+pub mod Laws

@@ -1,0 +1,100 @@
+ghost use mathlib.Core.Path.{_≡_};
+ghost use Prim.Native.Nat.{ℕ, _+_, _*_, _<_, _≤_};
+ghost use lib.ListN.{length};
+ghost use Rattle.std.specs.declared.result.Result.the-variants.{Ok, Err};
+ghost use Rattle.imagefile.specs.Shown.{count-of as the-count-of, row-of as the-row-of, Accepted};
+ghost use Rattle.imagefile.specs.Rules.{Head-rule, Row-rule};
+ghost use Rattle.imagefile.specs.Faults.{Row-faulty, Faulty};
+use super::faults::FileFault;
+use super::faults::RowFault;
+use super::faults::RowToFile;
+use imageformat::HEAD_BYTES;
+use imageformat::ROW_BYTES;
+use imageformat::Row;
+use imageformat::u16_at;
+use tables::Refusal;
+use tables::Stamp;
+
+// The greatest count that a file's head may say, and the greatest length that a row may.
+const GREATEST_COUNT: usize = 128;
+
+const GREATEST_LENGTH: u16 = 96;
+
+// The version of the files that are read here.
+const VERSION: u16 = 1;
+
+// The count that a file's head says, where the head stands.
+pub(crate) fn count_of(bytes: &[u8]) -> usize
+    requires { ⌜ 4 ≤ length (now bytes) ⌝ }
+    ensures { λ r. ⌜ r ≡ the-count-of (now (bytes .entry)) ⌝ }
+{
+    usize::from(u16_at(bytes, 2).unwrap())
+}
+
+// Row `k` of a file, where the row stands.
+pub(crate) fn row_of(bytes: &[u8], k: usize) -> Row
+    requires { ⌜ 18 + 14 * k ≤ length (now bytes) ⌝ }
+    ensures { λ r. ⌜ r ≡ the-row-of (now (bytes .entry)) k ⌝ }
+{
+    Row::read(bytes, HEAD_BYTES + ROW_BYTES * k).unwrap()
+}
+
+// The count that a file's head says, or what the file breaks before its first row.
+fn check_head(bytes: &[u8]) -> Result<usize, FileFault>
+    ensures { λ r. ⌜ elim r [ Ok n ↦ (n ≡ the-count-of (now (bytes .entry))) × Head-rule (now (bytes .entry)) | Err f ↦ Faulty (now (bytes .entry)) f ] ⌝ }
+{
+    if bytes.len() < HEAD_BYTES {
+        return Err(FileFault::Whole(Refusal::FileShort));
+    }
+    let version = u16_at(bytes, 0).unwrap();
+    if version != VERSION {
+        return Err(FileFault::Whole(Refusal::Version));
+    }
+    let count = count_of(bytes);
+    if count > GREATEST_COUNT {
+        return Err(FileFault::Whole(Refusal::CountHigh));
+    }
+    if bytes.len() < HEAD_BYTES + ROW_BYTES * count {
+        return Err(FileFault::Whole(Refusal::RowsShort));
+    }
+    Ok(count)
+}
+
+// The end of row `k`'s body, which has to begin at `place`, or what the row breaks first.
+fn check_row(bytes: &[u8], k: usize, place: usize) -> Result<usize, RowFault>
+    requires { ⌜ 18 + 14 * k ≤ length (now bytes) ⌝ }
+    ensures { λ r. ⌜ elim r [ Ok end ↦ (end ≡ the-row-of (now (bytes .entry)) k .place + the-row-of (now (bytes .entry)) k .length) × Row-rule (the-row-of (now (bytes .entry)) k) place | Err f ↦ (f .row ≡ k) × Row-faulty (the-row-of (now (bytes .entry)) k) place (f .refusal) ] ⌝ }
+{
+    let row = row_of(bytes, k);
+    if let Err(refusal) = Stamp::new(row.edition, row.hand) {
+        return Err(RowFault { row: k, refusal });
+    }
+    if row.length > GREATEST_LENGTH {
+        return Err(RowFault {
+            row: k,
+            refusal: Refusal::RowLong,
+        });
+    }
+    if row.place as usize != place {
+        return Err(RowFault {
+            row: k,
+            refusal: Refusal::BadPlace,
+        });
+    }
+    Ok(place + row.length as usize)
+}
+
+// Whether the bytes are the file of a lawful table; if not, what they break first.
+pub fn check(bytes: &[u8]) -> Result<(), FileFault>
+    ensures { λ r. ⌜ elim r [ Ok u ↦ Accepted (now (bytes .entry)) | Err f ↦ Faulty (now (bytes .entry)) f × (Accepted (now (bytes .entry)) → ⊥) ] ⌝ }
+{
+    let count = check_head(bytes)?;
+    let mut end = HEAD_BYTES + ROW_BYTES * count;
+    for k in 0..count {
+        end = check_row(bytes, k, end)?;
+    }
+    if end != bytes.len() {
+        return Err(FileFault::Whole(Refusal::BadEnd));
+    }
+    Ok(())
+}
