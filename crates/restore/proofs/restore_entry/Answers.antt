@@ -1,0 +1,33 @@
+use borrow.Author.Needs.{needs}
+use Rattle.tables.specs.Tables.{entry}
+use Rattle.restore.proofs.Steps.{text-copied, entry-put}
+use Rattle.restore.proofs.restore_entry.Needs as need
+
+-- the source's stamp is lawful, so it is not refused
+pub returns-in-Break-stamp : need.returns-in-Break-stamp
+returns-in-Break-stamp g c =
+    let l = g .R·Readable .lawful (c .args .from .now) .1 (c .args .e) (c .pre .in-source) in
+    let a = c .in-Continue-edition .ensures tt .0 (c .pre .in-source) in
+    let b = c .in-Break-stamp .ensures tt in
+    search needs
+
+-- the source's text has at most 96 bytes, so the buffer is long enough
+pub returns-in-Break-len : need.returns-in-Break-len
+returns-in-Break-len g c =
+    let l = g .R·Readable .lawful (c .args .from .now) .1 (c .args .e) (c .pre .in-source) in
+    let a = c .in-Break-len .ensures tt .0 (c .pre .in-source) in
+    search needs
+
+-- what is put is the source's entry
+pub returns : need.returns
+returns g c =
+    let l = g .R·Readable .lawful (c .args .from .now) .1 (c .args .e) (c .pre .in-source) in
+    let a = c .in-Continue-edition .ensures tt .0 (c .pre .in-source) in
+    let b = c .in-Continue-stamp .ensures tt in
+    let d = c .in-Continue-len .ensures tt .0 (c .pre .in-source) .0 (l .0) in
+    let x = entry (g .R·Readable .table (c .args .from .now)) (c .args .e) in
+    entry-put (g .S·Readable .table (c .args .to .now)) _ (c .args .e) x _ _ _ _ (c .pre .in-store) l
+    (text-copied (x .text) _ _ _ _ (c .in-Continue-len .len) (search needs) (d .1) (c .copy-bytes .ensures))
+    (search needs)
+    (search needs)
+    (c .put .ensures)

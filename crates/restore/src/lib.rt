@@ -1,0 +1,61 @@
+// Restoring a store from a readable table.
+//
+// Job: puts every entry of a readable table into a store.
+// May use: `tables`.
+// Main promise: where the two counts are equal the store's table is then the source's; where they differ the
+// call is refused by 15 and the store is as it was. There is no other refusal.
+
+ghost use mathlib.Core.Path.{_≡_};
+ghost use mathlib.Core.List.{_++_};
+ghost use Prim.Native.Nat.{_<_, _≤_};
+ghost use lib.ListN.{length, set, take, drop};
+ghost use Rattle.std.specs.declared.result.Result.the-variants.{Ok};
+ghost use Rattle.tables.specs.Tables.{entry};
+ghost use Rattle.restore.specs.Restored.{Restored};
+use tables::Readable;
+use tables::Refusal;
+use tables::Stamp;
+use tables::Store;
+
+// The most bytes that a text has.
+const LONGEST_TEXT: usize = 96;
+
+// Puts every entry of `from` into `to`; refusal 15 where the counts differ.
+pub fn restore<R: Readable, S: Store>(from: &R, to: &mut S) -> Result<(), Refusal>
+    ensures { λ r. ⌜ Restored (R·Readable .table (now (from .entry))) (S·Readable .table (now (to .entry))) r (S·Readable .table (now (to .exit))) ⌝ }
+{
+    let count = from.count();
+    if count != to.count() {
+        return Err(Refusal::CountsDiffer);
+    }
+    for e in 0..count {
+        restore_entry(from, to, e)?;
+    }
+    Ok(())
+}
+
+// Puts one entry, which both tables have.
+fn restore_entry<R: Readable, S: Store>(from: &R, to: &mut S, e: usize) -> Result<(), Refusal>
+    requires in_source { ⌜ e < length (R·Readable .table (now from)) ⌝ }
+    requires in_store { ⌜ e < length (S·Readable .table (now to)) ⌝ }
+    ensures { λ r. ⌜ (r ≡ Ok tt) × (S·Readable .table (now (to .exit)) ≡ set (S·Readable .table (now (to .entry))) e (entry (R·Readable .table (now (from .entry))) e)) ⌝ }
+{
+    let (edition, hand) = from.stamp(e)?;
+    let stamp = Stamp::new(edition, hand)?;
+    let mut fetched = [0; LONGEST_TEXT];
+    let len = from.text(e, &mut fetched)?;
+    let mut text = [0; LONGEST_TEXT];
+    copy_bytes(&mut text, &fetched, len);
+    to.put(e, &text[0..len], stamp)
+}
+
+// Copies the first `len` bytes one by one, and keeps the rest of `out`.
+fn copy_bytes(out: &mut [u8], bytes: &[u8], len: usize)
+    requires in_bytes { ⌜ len ≤ length (now bytes) ⌝ }
+    requires in_out { ⌜ len ≤ length (now out) ⌝ }
+    ensures { λ _. ⌜ now (out .exit) ≡ take len (now (bytes .entry)) ++ drop len (now (out .entry)) ⌝ }
+{
+    for i in 0..len {
+        out[i] = bytes[i];
+    }
+}
