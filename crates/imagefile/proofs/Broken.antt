@@ -8,7 +8,7 @@ use Rattle.imagefile.specs.Rules.{Passes, Row-rule}
 use Rattle.imagefile.specs.Faults.{Faulty, Row-faulty, bad-stamp, row-long, bad-place, file-short, version, count-high, rows-short, row-faulty, bad-end}
 use Rattle.imagefile.specs.declared.faults.FileFault.{FileFault}
 
-row-broken : {w : Row} {place : ℕ} {f : Refusal} → Row-faulty w place f → Row-rule w place → ⊥
+pub row-broken : {w : Row} {place : ℕ} {f : Refusal} → Row-faulty w place f → Row-rule w place → ⊥
 row-broken (bad-stamp no-stamp) p = no-stamp (p .0)
 row-broken (row-long _ h) p = omega arith
 row-broken (bad-place _ _ other) p = other (p .2)

@@ -1,6 +1,9 @@
 pub mod Coding
-pub mod Broken
 pub mod Written
 pub mod Back
+pub mod Bodies
+pub mod Broken
+pub mod Only
+pub mod Turns
 pub mod Verdicts
 pub mod Opened

@@ -12,7 +12,7 @@ use Rattle.imageformat.specs.Format.{row, rows, bodies, written, number-at}
 use Rattle.imageformat.specs.Rows.{row-at}
 use Rattle.imageformat.specs.declared.row.Row.{Row}
 use Rattle.imageformat.proofs.Numbers.{number-two, number-four}
-use Rattle.imagefile.specs.Shown.{count-of, version-of, row-of, entry-of, shown}
+use Rattle.imagefile.specs.Shown.{head-count, head-version, file-row, file-entry, shown}
 use Rattle.imagefile.specs.Rules.{Head-rule, Row-rule, due, Passes}
 
 -- where body k of a table begins, whose first body begins at p
@@ -74,8 +74,8 @@ length-rows [] p = refl
 length-rows (x ∷ t) p = let r = length-rows t (p + length (x .text)) in omega arith
 
 module _ (t : Table) (lawful : Lawful t) (bs : List ℕ) (e : bs ≡ written t) where
-  counted : count-of bs ≡ length t
-  counted = ap count-of e ∙ number-two (length t) (omega arith)
+  counted : head-count bs ≡ length t
+  counted = ap head-count e ∙ number-two (length t) (omega arith)
 
   bodies-at : drop (4 + 14 * length t) bs ≡ bodies t
   bodies-at =
@@ -85,7 +85,7 @@ module _ (t : Table) (lawful : Lawful t) (bs : List ℕ) (e : bs ≡ written t) 
   long : length bs ≡ 4 + 14 * length t + length (bodies t)
   long = ap length e ∙ simp (length-append, length-rows) (omega arith)
 
-  row-is : (k : ℕ) → k < length t → row-of bs k ≡ row-for (start (4 + 14 * length t) t k) (entry t k)
+  row-is : (k : ℕ) → k < length t → file-row bs k ≡ row-for (start (4 + 14 * length t) t k) (entry t k)
   row-is k h = rows-there t bs (bodies t) (4 + 14 * length t) 4 k (lawful .1) (omega arith) (ap (drop 4) e) h
 
   due-is : (k : ℕ) → k ≤ length t → due bs k ≡ start (4 + 14 * length t) t k
@@ -94,7 +94,7 @@ module _ (t : Table) (lawful : Lawful t) (bs : List ℕ) (e : bs ≡ written t) 
       ap (λ (w : Row). w .place + w .length) (row-is k (omega arith))
       ∙ sym (start-more t (4 + 14 * length t) k (omega arith))
 
-  entry-is : (k : ℕ) → k < length t → entry t k ≡ entry-of bs k
+  entry-is : (k : ℕ) → k < length t → entry t k ≡ file-entry bs k
   entry-is k h =
       sym
       (ap (λ (w : Row). of (take (w .length) (drop (w .place) bs)) (w .edition) (w .hand)) (row-is k h)
@@ -105,7 +105,7 @@ module _ (t : Table) (lawful : Lawful t) (bs : List ℕ) (e : bs ≡ written t) 
   passes =
       let n = counted in
       let l = long in (
-        (omega arith, ap version-of e, omega arith, omega arith),
+        (omega arith, ap head-version e, omega arith, omega arith),
         (λ k h.
             let i : k < length t = omega arith in
             let rule : Row-rule (row-for (start (4 + 14 * length t) t k) (entry t k)) (due bs k) = (lawful .1 k i .1, lawful .1 k i .0, sym (due-is k (omega arith))) in
@@ -116,4 +116,4 @@ module _ (t : Table) (lawful : Lawful t) (bs : List ℕ) (e : bs ≡ written t) 
 
   -- it shows the table
   pub shows : shown bs ≡ t
-  shows = sym (fill-by-all (entry-of bs) t (count-of bs) blank (sym counted) (λ k h. entry-is k (let n = counted in omega arith)))
+  shows = sym (fill-by-all (file-entry bs) t (head-count bs) blank (sym counted) (λ k h. entry-is k (let n = counted in omega arith)))

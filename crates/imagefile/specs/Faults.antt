@@ -9,7 +9,7 @@ use Rattle.tables.specs.Tables.{Lawful-stamp}
 use Rattle.tables.specs.declared.refusal.Refusal.{Refusal}
 use Rattle.tables.specs.declared.refusal.Refusal.the-variants.{FileShort, Version, CountHigh, RowsShort, BadStamp, RowLong, BadPlace, BadEnd}
 use Rattle.imageformat.specs.declared.row.Row.{Row as FileRow}
-use Rattle.imagefile.specs.Shown.{version-of, count-of, row-of}
+use Rattle.imagefile.specs.Shown.{head-version, head-count, file-row}
 use Rattle.imagefile.specs.Rules.{Head-rule, due, Rows-rule}
 use Rattle.imagefile.specs.declared.faults.RowFault.{RowFault}
 use Rattle.imagefile.specs.declared.faults.FileFault.{FileFault}
@@ -39,12 +39,12 @@ pub data Faulty (bs : List ℕ) : FileFault → Type 0 where
   -- 20: it is shorter than 4 bytes
   file-short : length bs < 4 → Faulty bs (Whole FileShort)
   -- 21: its version is not 1
-  version : 4 ≤ length bs → (version-of bs ≡ 1 → ⊥) → Faulty bs (Whole Version)
+  version : 4 ≤ length bs → (head-version bs ≡ 1 → ⊥) → Faulty bs (Whole Version)
   -- 22: its count is above 128
-  count-high : 4 ≤ length bs → version-of bs ≡ 1 → 128 < count-of bs → Faulty bs (Whole CountHigh)
+  count-high : 4 ≤ length bs → head-version bs ≡ 1 → 128 < head-count bs → Faulty bs (Whole CountHigh)
   -- 23: it ends before its rows do
-  rows-short : 4 ≤ length bs → version-of bs ≡ 1 → count-of bs ≤ 128 → length bs < 4 + 14 * count-of bs → Faulty bs (Whole RowsShort)
+  rows-short : 4 ≤ length bs → head-version bs ≡ 1 → head-count bs ≤ 128 → length bs < 4 + 14 * head-count bs → Faulty bs (Whole RowsShort)
   -- 24, 25, 26: the rows before the fault's row keep their rule, and this one breaks its own
-  row-faulty : {x : RowFault} → Head-rule bs → x .row < count-of bs → Rows-rule bs (x .row) → Row-faulty (row-of bs (x .row)) (due bs (x .row)) (x .refusal) → Faulty bs (Row x)
+  row-faulty : {x : RowFault} → Head-rule bs → x .row < head-count bs → Rows-rule bs (x .row) → Row-faulty (file-row bs (x .row)) (due bs (x .row)) (x .refusal) → Faulty bs (Row x)
   -- 27: it does not end where its last body does
-  bad-end : Head-rule bs → Rows-rule bs (count-of bs) → (due bs (count-of bs) ≡ length bs → ⊥) → Faulty bs (Whole BadEnd)
+  bad-end : Head-rule bs → Rows-rule bs (head-count bs) → (due bs (head-count bs) ≡ length bs → ⊥) → Faulty bs (Whole BadEnd)

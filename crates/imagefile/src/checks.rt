@@ -2,7 +2,7 @@ ghost use mathlib.Core.Path.{_≡_};
 ghost use Prim.Native.Nat.{ℕ, _+_, _*_, _<_, _≤_};
 ghost use lib.ListN.{length};
 ghost use Rattle.std.specs.declared.result.Result.the-variants.{Ok, Err};
-ghost use Rattle.imagefile.specs.Shown.{count-of as the-count-of, row-of as the-row-of, Accepted};
+ghost use Rattle.imagefile.specs.Shown.{head-count, file-row, Accepted};
 ghost use Rattle.imagefile.specs.Rules.{Head-rule, Row-rule};
 ghost use Rattle.imagefile.specs.Faults.{Row-faulty, Faulty};
 use super::faults::FileFault;
@@ -26,7 +26,7 @@ const VERSION: u16 = 1;
 // The count that a file's head says, where the head stands.
 pub(crate) fn count_of(bytes: &[u8]) -> usize
     requires { ⌜ 4 ≤ length (now bytes) ⌝ }
-    ensures { λ r. ⌜ r ≡ the-count-of (now (bytes .entry)) ⌝ }
+    ensures { λ r. ⌜ r ≡ head-count (now (bytes .entry)) ⌝ }
 {
     usize::from(u16_at(bytes, 2).unwrap())
 }
@@ -34,14 +34,14 @@ pub(crate) fn count_of(bytes: &[u8]) -> usize
 // Row `k` of a file, where the row stands.
 pub(crate) fn row_of(bytes: &[u8], k: usize) -> Row
     requires { ⌜ 18 + 14 * k ≤ length (now bytes) ⌝ }
-    ensures { λ r. ⌜ r ≡ the-row-of (now (bytes .entry)) k ⌝ }
+    ensures { λ r. ⌜ r ≡ file-row (now (bytes .entry)) k ⌝ }
 {
     Row::read(bytes, HEAD_BYTES + ROW_BYTES * k).unwrap()
 }
 
 // The count that a file's head says, or what the file breaks before its first row.
 fn check_head(bytes: &[u8]) -> Result<usize, FileFault>
-    ensures { λ r. ⌜ elim r [ Ok n ↦ (n ≡ the-count-of (now (bytes .entry))) × Head-rule (now (bytes .entry)) | Err f ↦ Faulty (now (bytes .entry)) f ] ⌝ }
+    ensures { λ r. ⌜ elim r [ Ok n ↦ (n ≡ head-count (now (bytes .entry))) × Head-rule (now (bytes .entry)) | Err f ↦ Faulty (now (bytes .entry)) f ] ⌝ }
 {
     if bytes.len() < HEAD_BYTES {
         return Err(FileFault::Whole(Refusal::FileShort));
@@ -63,7 +63,7 @@ fn check_head(bytes: &[u8]) -> Result<usize, FileFault>
 // The end of row `k`'s body, which has to begin at `place`, or what the row breaks first.
 fn check_row(bytes: &[u8], k: usize, place: usize) -> Result<usize, RowFault>
     requires { ⌜ 18 + 14 * k ≤ length (now bytes) ⌝ }
-    ensures { λ r. ⌜ elim r [ Ok end ↦ (end ≡ the-row-of (now (bytes .entry)) k .place + the-row-of (now (bytes .entry)) k .length) × Row-rule (the-row-of (now (bytes .entry)) k) place | Err f ↦ (f .row ≡ k) × Row-faulty (the-row-of (now (bytes .entry)) k) place (f .refusal) ] ⌝ }
+    ensures { λ r. ⌜ elim r [ Ok end ↦ (end ≡ file-row (now (bytes .entry)) k .place + file-row (now (bytes .entry)) k .length) × Row-rule (file-row (now (bytes .entry)) k) place | Err f ↦ (f .row ≡ k) × Row-faulty (file-row (now (bytes .entry)) k) place (f .refusal) ] ⌝ }
 {
     let row = row_of(bytes, k);
     if let Err(refusal) = Stamp::new(row.edition, row.hand) {
@@ -86,7 +86,7 @@ fn check_row(bytes: &[u8], k: usize, place: usize) -> Result<usize, RowFault>
 
 // Whether the bytes are the file of a lawful table; if not, what they break first.
 pub fn check(bytes: &[u8]) -> Result<(), FileFault>
-    ensures { λ r. ⌜ elim r [ Ok u ↦ Accepted (now (bytes .entry)) | Err f ↦ Faulty (now (bytes .entry)) f × (Accepted (now (bytes .entry)) → ⊥) ] ⌝ }
+    ensures { λ r. ⌜ elim r [ Ok u ↦ Accepted (now (bytes .entry)) | Err f ↦ Faulty (now (bytes .entry)) f × ((g : FileFault) → Faulty (now (bytes .entry)) g → g ≡ f) × (Accepted (now (bytes .entry)) → ⊥) ] ⌝ }
 {
     let count = check_head(bytes)?;
     let mut end = HEAD_BYTES + ROW_BYTES * count;

@@ -45,7 +45,7 @@ impl FileFault {
 pub impl From<RowFault> for FileFault as RowToFile {
     ghost converts = { λ x y. y ≡ FileFault.Row x };
 
-    fn from(fault: RowFault) -> FileFault {
-        FileFault::Row(fault)
+    fn from(of_row: RowFault) -> FileFault {
+        FileFault::Row(of_row)
     }
 }

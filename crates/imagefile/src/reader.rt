@@ -6,7 +6,7 @@ ghost use denote.Ref.{now as seen};
 ghost use Rattle.std.specs.declared.option.Option.the-variants.{Some, None};
 ghost use Rattle.tables.specs.Tables.{Table, Lawful, entry};
 ghost use Rattle.imageformat.specs.Format.{written};
-ghost use Rattle.imagefile.specs.Shown.{count-of as head-count, row-of as the-row-of, body-of, shown, Accepted};
+ghost use Rattle.imagefile.specs.Shown.{head-count, file-row, file-body, shown, Accepted};
 ghost use Rattle.imagefile.specs.Rules.{Head-rule, Rows-rule, due};
 ghost use Rattle.imagefile.specs.Laws.{shown-lawful};
 use super::checks::check;
@@ -44,7 +44,7 @@ impl<'a> Reader<'a> {
 
     // Row `e` of the file, if the file has so many.
     fn row(&self, e: usize) -> Option<Row>
-        ensures { λ r. ⌜ elim r [ Some w ↦ (e < length (shown (seen (now (self .entry) .bytes)))) × (w ≡ the-row-of (seen (now (self .entry) .bytes)) e) × (w .edition ≡ entry (shown (seen (now (self .entry) .bytes))) e .edition) × (w .hand ≡ entry (shown (seen (now (self .entry) .bytes))) e .hand) | None ↦ length (shown (seen (now (self .entry) .bytes))) ≤ e ] ⌝ }
+        ensures { λ r. ⌜ elim r [ Some w ↦ (e < length (shown (seen (now (self .entry) .bytes)))) × (w ≡ file-row (seen (now (self .entry) .bytes)) e) × (w .edition ≡ entry (shown (seen (now (self .entry) .bytes))) e .edition) × (w .hand ≡ entry (shown (seen (now (self .entry) .bytes))) e .hand) | None ↦ length (shown (seen (now (self .entry) .bytes))) ≤ e ] ⌝ }
     {
         if e >= self.count() {
             return None;
@@ -54,7 +54,7 @@ impl<'a> Reader<'a> {
 
     // The text of an entry, as the part of the file in which it stands.
     pub fn body(&self, e: usize) -> Option<&'a [u8]>
-        ensures { λ r. ⌜ elim r [ Some s ↦ (e < length (shown (seen (now (self .entry) .bytes)))) × (seen s ≡ entry (shown (seen (now (self .entry) .bytes))) e .text) × (seen s ≡ body-of (seen (now (self .entry) .bytes)) e) | None ↦ length (shown (seen (now (self .entry) .bytes))) ≤ e ] ⌝ }
+        ensures { λ r. ⌜ elim r [ Some s ↦ (e < length (shown (seen (now (self .entry) .bytes)))) × (seen s ≡ entry (shown (seen (now (self .entry) .bytes))) e .text) × (seen s ≡ file-body (seen (now (self .entry) .bytes)) e) | None ↦ length (shown (seen (now (self .entry) .bytes))) ≤ e ] ⌝ }
     {
         let row = self.row(e)?;
         let place = row.place as usize;

@@ -1,6 +1,6 @@
 use mathlib.Core.Path.{_≡_}
 use Prim.Native.Nat.{ℕ, _<_}
-use Rattle.imagefile.specs.Shown.{count-of}
+use Rattle.imagefile.specs.Shown.{head-count}
 use Rattle.imagefile.specs.Rules.{Head-rule, Rows-rule, due}
 use Rattle.imagefile.proofs.checks.check.Given as given
 

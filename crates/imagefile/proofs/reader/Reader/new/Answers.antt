@@ -13,7 +13,7 @@ opened : (c : Joined-check) → Opened (c .args .bytes .now) (c .match-check .re
 opened c =
     elim (c .match-check .came) [
       | in-Ok w ↦ inl (w .in-Ok .ensures tt, ap (λ (r : RefT (List ℕ) × Unit {0}). r .0 .now) (w .result-is))
-      | in-Err w ↦ inr (w .in-Err .ensures tt .1, ap (λ (r : RefT (List ℕ) × Unit {0}). r .0 .now) (w .result-is))
+      | in-Err w ↦ inr (w .in-Err .ensures tt .2, ap (λ (r : RefT (List ℕ) × Unit {0}). r .0 .now) (w .result-is))
     ]
 
 pub ghost-result : need.ghost-result
