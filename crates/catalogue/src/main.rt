@@ -2,11 +2,9 @@
 //
 // Job: reads a listing from standard input, one entry a line, and prints each step with its figures.
 // May use: every library below. The work is done there; here it is only called and printed.
-ghost use Prim.Native.Nat.{_≤_};
-ghost use lib.ListN.{length};
-ghost use Rattle.std.specs.Vec.{made};
 use compare::Comparison;
 use compare::compare_tables;
+use input::read_input;
 use listing::BadLine;
 use listing::Catalogue;
 use listing::LineFault;
@@ -19,7 +17,6 @@ use slots::SlotPut;
 use slots::SlotReadable;
 use slots::SlotStore;
 use std::io;
-use std::io::Read;
 use std::io::Write;
 use tables::Readable;
 use tables::Refusal;
@@ -29,21 +26,6 @@ const MOST_INPUT: usize = 65_536;
 
 // The most bytes that a text has.
 const LONGEST_TEXT: usize = 96;
-
-// Reads into `buf` until it is full or the input ends, and says how much came.
-fn read_input<R: Read>(input: &mut R, buf: &mut [u8]) -> io::Result<usize>
-    ensures { λ r. ⌜ made r (λ n. n ≤ length (now (buf .entry))) ⌝ }
-{
-    let mut got = 0;
-    while got < buf.len() {
-        let n = input.read(&mut buf[got..])?;
-        if n == 0 {
-            break;
-        }
-        got += n;
-    }
-    Ok(got)
-}
 
 // Tells each line that was passed over.
 fn show_bad_lines(rt: &LibcRuntime, bad: &[BadLine]) -> io::Result<()> {

@@ -6,8 +6,7 @@ use native.Mathlib.Omega.{arith}
 use lib.Dec.{lit≤, lit<}
 use lib.ListN.{length, set}
 use Rattle.tables.specs.Tables.{Lawful, Lawful-entry, entry, of}
-use Rattle.imagefile.specs.Rules.{Head-rule, Rows-rule, due}
-use Rattle.imagefile.specs.Shown.{head-count, file-row}
+use Rattle.imagefile.specs.Rules.{Rows-rule}
 use Rattle.imagefile.specs.Faults.{bad-stamp, bad-place, row-faulty, bad-end}
 use Rattle.vectors.specs.Vectors.{vectors, one-entry, Every-holds}
 
@@ -21,16 +20,24 @@ entry-a = (lit≤ tt, λ e h. first e h)
     first zero h = (lit≤ tt, (lit≤ tt, lit≤ tt))
     first (suc e) h = absurd (omega arith)
 
-
 pub all-hold : Every-holds vectors
-all-hold =
-    ( (no-entry, refl)
-    , ( (entry-a, refl)
-      , ( row-faulty (lit≤ tt, refl, lit≤ tt, lit≤ tt) (lit< tt) (λ k h. absurd (omega arith)) (bad-stamp (λ lawful. absurd (omega (arith, lawful .0))))
-        , ( row-faulty (lit≤ tt, refl, lit≤ tt, lit≤ tt) (lit< tt) (λ k h. absurd (omega arith)) (bad-place (lit≤ tt, lit≤ tt) (lit≤ tt) (λ same. absurd (omega (arith, same))))
-          , ( bad-end (lit≤ tt, refl, lit≤ tt, lit≤ tt) one-row (λ same. absurd (omega (arith, same)))
-            , tt ) ) ) ) )
+all-hold = (
+  (no-entry, refl),
+  (
+    (entry-a, refl),
+    (
+      row-faulty (lit≤ tt, refl, lit≤ tt, lit≤ tt) (lit< tt) (λ k h. absurd (omega arith)) (bad-stamp (λ lawful. absurd (omega (arith, lawful .0)))),
+      (
+        row-faulty (lit≤ tt, refl, lit≤ tt, lit≤ tt) (lit< tt) (λ k h. absurd (omega arith)) (bad-place (lit≤ tt, lit≤ tt) (lit≤ tt) (λ same. absurd (omega (arith, same)))),
+        (
+          bad-end (lit≤ tt, refl, lit≤ tt, lit≤ tt) one-row (λ same. absurd (omega (arith, same))),
+          tt,
+        ),
+      ),
+    ),
+  ),
+)
   where
-    one-row : Rows-rule (one-entry ++ (0 ∷ [])) (head-count (one-entry ++ (0 ∷ [])))
+    one-row : Rows-rule (one-entry ++ (0 ∷ [])) 1
     one-row zero h = ((lit≤ tt, lit≤ tt), lit≤ tt, refl)
     one-row (suc k) h = absurd (omega arith)

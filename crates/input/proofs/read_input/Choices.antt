@@ -1,6 +1,6 @@
 use Prim.Native.Nat.{_-_, _≤_}
 use lib.ListN.{length}
-use Rattle.catalogue.proofs.read_input.Given as given
+use Rattle.input.proofs.read_input.Given as given
 
 abbrev pub Inv-loop-got : given.InvT-loop-got
 Inv-loop-got g l = l .got ≤ length (l .entry .buf)
