@@ -1,0 +1,3 @@
+pub mod Overwriting
+pub mod Files
+pub mod Steps

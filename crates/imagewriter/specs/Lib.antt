@@ -1,0 +1,3 @@
+pub mod Places
+pub mod Answers
+pub mod Standing
