@@ -6,7 +6,7 @@ use native.Mathlib.Nat.{add-zero}
 use native.Mathlib.Omega.{arith}
 use lib.ListN.{length, take, drop}
 use lib.Seq.{drop-append-add}
-use Rattle.std.proofs.shelf.Lists.{append-assoc, append-nil, length-append, take-more}
+use Rattle.std.proofs.shelf.Lists.{append-assoc, append-nil, length-append, take-more, take-append-drop}
 use Rattle.tables.specs.Tables.{Entry, Table, blank, entry}
 use Rattle.imageformat.specs.Format.{bytes, row, rows, bodies, written}
 
@@ -30,11 +30,21 @@ rows-push p (y ∷ t) x =
     ap (λ z. row-of p y ++ z) (rows-push q t x ∙ ap (λ m. rows q t ++ row-of m x) at)
     ∙ sym (append-assoc (row-of p y) (rows q t) (row-of (p + length (y .text ++ bodies t)) x))
 
+-- the bodies of two tables
+pub bodies-append : (s t : Table) → bodies (s ++ t) ≡ bodies s ++ bodies t
+bodies-append [] t = refl
+bodies-append (y ∷ s) t =
+    ap (λ z. y .text ++ z) (bodies-append s t) ∙ sym (append-assoc (y .text) (bodies s) (bodies t))
+
 -- one more body
 pub bodies-push : (t : Table) (x : Entry) → bodies (t ++ (x ∷ [])) ≡ bodies t ++ x .text
-bodies-push [] x = append-nil (x .text)
-bodies-push (y ∷ t) x =
-    ap (λ z. y .text ++ z) (bodies-push t x) ∙ sym (append-assoc (y .text) (bodies t) (x .text))
+bodies-push t x = bodies-append t (x ∷ []) ∙ ap (λ z. bodies t ++ z) (append-nil (x .text))
+
+-- the first bodies are no longer than all
+pub bodies-within : (t : Table) (k : ℕ) → length (bodies (take k t)) ≤ length (bodies t)
+bodies-within t k =
+    let parts = ap bodies (take-append-drop k t) in
+    omega (arith, ap length (bodies-append (take k t) (drop k t)), ap length parts, length-append (bodies (take k t)) (bodies (drop k t)))
 
 -- the length in row k is that of entry k
 pub length-in-rows : (p : ℕ) (t : Table) (k : ℕ) (rest : List ℕ) → k < length t → take 2 (drop (14 * k + 12) (rows p t ++ rest)) ≡ bytes 2 (length (entry t k .text))
