@@ -29,6 +29,7 @@ small s o l =
 
 -- a table with another entry at e
 module _ (s : PageStore) (st : Stock) (rs : List Row) (e : ℕ) (x : Entry) (stays : st .count ≡ s .stock .count) (within : e < s .stock .count) (here : entry-of st rs e ≡ x) (rest : (o : ℕ) → o < s .stock .count → (o ≡ e → ⊥) → entry-of st rs o ≡ entry-of (s .stock) (s .rows) o) where
+  -- entry by entry: at e, elsewhere, at each number
   at-here : entry-of st rs e ≡ getD (set (table-of s) e x) e blank
   at-here = here ∙ sym (getD-set-same (table-of s) e x blank (let n = table-length s in omega arith))
 
@@ -64,12 +65,14 @@ module _ (s : PageStore) (st : Stock) (e : ℕ) (text : List ℕ) (stamp : Stamp
   abbrev rs : List Row
   rs = set (s .rows) e (record { len = length text; stamp = stamp })
 
+  -- the row of e, and the other rows
   row-here : row rs e ≡ record { len = length text; stamp = stamp }
   row-here = getD-set-same (s .rows) e _ no-row (omega (arith, s .wide, s .stock .lengths .2))
 
   row-rest : (o : ℕ) → (o ≡ e → ⊥) → row rs o ≡ row (s .rows) o
   row-rest o ne = getD-set-other (s .rows) e o _ no-row ne
 
+  -- each text has as many pages as it needs
   fits-here : (row rs e .len ≤ 96) × (size (st .chains) e ≡ (row rs e .len + 15) / 16)
   fits-here =
       let len : row rs e .len ≡ length text = ap (λ y. y .len) row-here in
@@ -85,12 +88,13 @@ module _ (s : PageStore) (st : Stock) (e : ℕ) (text : List ℕ) (stamp : Stamp
       let f = s .fits o l in
       (omega arith, omega arith)
 
-  -- what the store keeps
+  -- so the store keeps what it must
   pub fits-again : Fits (st .chains) (st .count) rs
   fits-again o l =
       let P : ℕ → Type 0 = λ j. (row rs j .len ≤ 96) × (size (st .chains) j ≡ (row rs j .len + 15) / 16) in
       ⊎-elim (λ q. subst P (sym q) fits-here) (λ ne. fits-rest o (omega (arith, r .stays)) ne) (cases-eq o e)
 
+  -- the entry e, and the others
   entry-here : entry-of st rs e ≡ of text (stamp .edition) (stamp .hand)
   entry-here =
       ap (λ y. of (take (y .len) (joined (λ x. x) (blocks st e))) (y .stamp .edition) (y .stamp .hand)) row-here

@@ -6,9 +6,9 @@ use mathlib.Core.Bool.{cond}
 use Prim.Native.Nat.{ℕ, zero, suc, _+_, _*_, _<_, _≤_}
 use native.Mathlib.Omega.{arith}
 use lib.Dec.{eqb, ltb}
-use lib.ListN.{length, getD, set, replicate}
+use lib.ListN.{getD, set, replicate}
 use Rattle.std.specs.Iters.{counting}
-use Rattle.std.proofs.shelf.Lists.{getD-set-same, getD-set-other, getD-replicate, length-set}
+use Rattle.std.proofs.shelf.Lists.{getD-set-same, getD-set-other, getD-replicate}
 use Rattle.std.proofs.shelf.Tests.{cases-eq, eq-eqb, ne-eqb, lt-ltb, le-ltb, cond-true, cond-false}
 use Rattle.pages.specs.declared.page.Page.{Page}
 use Rattle.pages.specs.declared.page.Chain.{Chain}
@@ -58,9 +58,6 @@ module _ (ps : List Page) (n : ℕ) (all : (p : ℕ) → p < 768 → page ps p �
   linked-fresh (suc k) h l =
       ap (λ y. h ∷ linked ps k (y .next)) (all h (omega arith)) ∙ ap (λ t. h ∷ t) (linked-fresh k (h + 1) (omega arith))
 
-  pub start-length : length (start n) ≡ 129
-  start-length = length-set (replicate 129 no-chain) n (record { first = 0; pages = 6 * n })
-
   -- the free chain, and the chains of the entries
   free : getD (start n) n no-chain ≡ record { first = 0; pages = 6 * n }
   free = getD-set-same (replicate 129 no-chain) n _ no-chain (omega arith)
@@ -74,18 +71,21 @@ module _ (ps : List Page) (n : ℕ) (all : (p : ℕ) → p < 768 → page ps p �
   start-blocks o l = ap (λ c. map (λ p. page ps p .bytes) (linked ps (c .pages) (c .first))) (bare o l)
 
   -- each page stands in the free chain, once
-  pub start-once : Once ps (start n) n
-  start-once p =
-      let none = total-none (λ o. times p (chain ps (start n) o)) n (λ o l. ap (λ c. times p (linked ps (c .pages) (c .first))) (bare o l)) in
-      let last : times p (chain ps (start n) n) ≡ cond (ltb p (6 * n)) 1 0 =
+  in-free : (p : ℕ) → times p (chain ps (start n) n) ≡ cond (ltb p (6 * n)) 1 0
+  in-free p =
       ap (λ c. times p (linked ps (c .pages) (c .first))) free
       ∙ ap (times p) (linked-fresh (6 * n) 0 (omega arith))
       ∙ times-counting p 0 (6 * n) (omega arith)
       ∙ ap (λ m. cond (ltb p m) 1 0) (let q : 0 + 6 * n ≡ 6 * n = omega arith in q)
-      in
+
+  -- and in no other
+  pub start-once : Once ps (start n) n
+  start-once p =
+      let none = total-none (λ o. times p (chain ps (start n) o)) n (λ o l. ap (λ c. times p (linked ps (c .pages) (c .first))) (bare o l)) in
+      let last = in-free p in
       omega arith
 
-  -- which has all pages
+  -- the free chain has all pages
   pub start-counted : Counted (start n) n
   start-counted =
       let none = total-none (size (start n)) n (λ o l. ap (λ c. c .pages) (bare o l)) in

@@ -81,7 +81,7 @@ total-move f g a b m la lb apart e rest =
     let z = total-same (out b (out a f)) (out b (out a g)) m (λ o l. out-same (out a f) (out a g) b o (λ nb. out-same f g a o (λ na. rest o l na nb))) in
     omega arith
 
--- where each part is at most 6
+-- where each part is at most 6, the sum is at most 6 for each
 pub total-capped : (f : ℕ → ℕ) (m : ℕ) → ((o : ℕ) → o < m → f o ≤ 6) → total f m ≤ 6 * m
 total-capped f zero h = omega arith
 total-capped f (suc m) h =

@@ -1,6 +1,6 @@
 use mathlib.Core.Path.{refl, ap}
-use lib.ListN.{length}
-use Rattle.pages.proofs.Starts.{start-length, start-blocks, start-once, start-counted}
+use lib.ListN.{length, length-set}
+use Rattle.pages.proofs.Starts.{start-blocks, start-once, start-counted}
 use Rattle.pages.proofs.stock.Stock.new.Needs as need
 
 pub ghost-result : need.ghost-result
@@ -8,9 +8,9 @@ ghost-result c =
     let ps = c .fresh-pages .result in
     let n = c .args .n in
     let f = c .fresh-pages .ensures in (
-      (f .0, start-length ps n (f .1) (c .pre), c .pre),
+      (f .0, simp length-set, c .pre),
       (
-        (λ p l. ap (λ y. length (y .bytes)) (f .1 p l)),
+        λ p l. ap (λ y. length (y .bytes)) (f .1 p l),
         (start-once ps n (f .1) (c .pre), (start-counted ps n (f .1) (c .pre), tt)),
       ),
     )
