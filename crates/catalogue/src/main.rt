@@ -1,31 +1,33 @@
-// Carries a catalogue from one store into another and compares the two.
+// Carries a catalogue into an image file and back.
 //
 // Job: reads a listing from standard input, one entry a line, and prints each step with its figures.
 // May use: every library below. The work is done there; here it is only called and printed.
 use compare::Comparison;
-use compare::compare_tables;
 use input::read_input;
 use listing::BadLine;
-use listing::Catalogue;
 use listing::LineFault;
 use listing::LoadFault;
 use listing::load_listing;
 use pages::PageReadable;
 use pages::PageStore;
-use restore::restore;
 use slots::SlotPut;
 use slots::SlotReadable;
 use slots::SlotStore;
 use std::io;
 use std::io::Write;
 use tables::Readable;
-use tables::Refusal;
+use transfer::Transfer;
+use transfer::TransferFault;
+use transfer::transfer_table;
 
 // The most bytes of standard input that are read.
 const MOST_INPUT: usize = 65_536;
 
 // The most bytes that a text has.
 const LONGEST_TEXT: usize = 96;
+
+// The bytes of a writer's buffer for 128 entries: 4 + 110 × 128.
+const LONGEST_FILE: usize = 14_084;
 
 // Tells each line that was passed over.
 fn show_bad_lines(rt: &LibcRuntime, bad: &[BadLine]) -> io::Result<()> {
@@ -67,26 +69,52 @@ fn show_table<T: Readable>(rt: &LibcRuntime, table: &T) -> io::Result<()> {
     Ok(())
 }
 
-// Restores the page store into a slot store, and compares the two.
+// Prints the figures of a transfer.
+fn show_transfer(rt: &LibcRuntime, done: &Transfer) -> io::Result<()> {
+    let length = done.file_length;
+    let n = done.entries;
+    println!(
+        rt,
+        "image file: {length} bytes written, and accepted by the check"
+    )?;
+    println!(rt, "reader: {n} entries shown")?;
+    println!(rt, "slot store: {n} entries restored")?;
+    match done.compared {
+        Comparison::Same => println!(rt, "compared: the two tables are the same"),
+        Comparison::CountsDiffer => println!(rt, "compared: the counts differ"),
+        Comparison::Entry(e) => println!(rt, "compared: entry {e} differs"),
+    }
+}
+
+// Prints why a transfer ended early.
+fn show_fault(rt: &LibcRuntime, fault: &TransferFault) -> io::Result<()> {
+    match fault {
+        TransferFault::Write(f) => {
+            let number = f.number();
+            println!(rt, "image file: not written, refusal {number}")
+        }
+        TransferFault::Restore(f) => {
+            let number = f.refusal().number();
+            println!(rt, "slot store: not restored, refusal {number}")
+        }
+    }
+}
+
+// Carries the table of the page store through an image file into a slot store.
 fn carry(rt: &LibcRuntime, live: &PageStore) -> io::Result<()> {
     let n = live.count();
-    println!(rt, "page store: {n} entries")?;
+    println!(rt, "page store: {n} entries kept")?;
     let Ok(mut image) = SlotStore::new(n) else {
         return println!(rt, "slot store: not made");
     };
-    match restore(live, &mut image) {
-        Ok(()) => println!(rt, "slot store: {n} entries restored")?,
-        Err(f) => {
-            let number = f.number();
-            println!(rt, "slot store: refusal {number}")?
+    let mut file = [0u8; LONGEST_FILE];
+    match transfer_table(live, &mut file, &mut image) {
+        Ok(done) => {
+            show_transfer(rt, &done)?;
+            show_table(rt, &image)
         }
+        Err(fault) => show_fault(rt, &fault),
     }
-    match compare_tables(live, &image) {
-        Comparison::Same => println!(rt, "compared: the two tables are the same")?,
-        Comparison::CountsDiffer => println!(rt, "compared: the counts differ")?,
-        Comparison::Entry(e) => println!(rt, "compared: entry {e} differs")?,
-    }
-    show_table(rt, &image)
 }
 
 fn main(rt: LibcRuntime) -> io::Result<()> {

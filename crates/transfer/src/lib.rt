@@ -18,8 +18,8 @@ use tables::Store;
 
 pub mod fault;
 
-pub use fault::TransferFault;
 use fault::RestoreToTransfer;
+pub use fault::TransferFault;
 use fault::WriteToTransfer;
 
 // The figures of a transfer: the length of the file, the entries that its reader shows, and how the source and
