@@ -2,8 +2,8 @@ pub mod Coding
 pub mod Written
 pub mod Back
 pub mod Bodies
+pub mod Firsts
 pub mod Broken
-pub mod Only
 pub mod Turns
 pub mod Verdicts
 pub mod Opened
