@@ -1,8 +1,8 @@
 -- A file with a fault does not keep all rules, and has no other fault.
 use mathlib.Core.List.{List}
-use mathlib.Core.Logic.{_⊎_, inl, inr}
+use mathlib.Core.Logic.{inl, inr}
 use mathlib.Core.Path.{_≡_, ap, subst, _∙_}
-use Prim.Native.Nat.{ℕ, _<_}
+use Prim.Native.Nat.{ℕ}
 use Rattle.std.proofs.shelf.Tests.{cases-order}
 use Rattle.tables.specs.declared.refusal.Refusal.{Refusal}
 use Rattle.tables.specs.declared.refusal.Refusal.the-variants.{FileShort, Version, CountHigh, RowsShort, BadStamp, RowLong, BadPlace, BadEnd}
@@ -15,9 +15,11 @@ use Rattle.imagefile.specs.declared.faults.FileFault.{FileFault}
 use Rattle.imagefile.specs.declared.faults.FileFault.the-variants.{Whole, Row}
 use Rattle.imagefile.proofs.Firsts.{first-kept, first-only, one-only, none-only}
 
+-- a row with a fault does not keep its rule
 pub row-broken : {w : FileRow} {place : ℕ} {f : Refusal} → Row-faulty w place f → Row-rule w place → ⊥
 row-broken bad p = first-kept (first-kept (first-kept bad (p .0)) (p .1)) (p .2)
 
+-- a file with a fault does not keep all rules
 pub file-broken : (bs : List ℕ) (f : FileFault) → Faulty bs f → Passes bs → ⊥
 unfolding Faulty
 file-broken bs f bad p =
@@ -25,6 +27,7 @@ file-broken bs f bad p =
     (first-kept (first-kept (first-kept (first-kept (first-kept bad (p .0 .0)) (p .0 .1)) (p .0 .2)) (p .0 .3)) (p .1))
     (p .2)
 
+-- a row has one fault
 row-only : (w : FileRow) (place : ℕ) (f g : Refusal) → Row-faulty w place f → Row-faulty w place g → g ≡ f
 row-only w place = first-only (one-only BadStamp) (first-only (one-only RowLong) (first-only (one-only BadPlace) none-only))
 
@@ -49,6 +52,7 @@ in-row-only bs (Row x) (Row y) a b =
           ]
     ]
 
+-- a file has one fault
 pub file-only : (bs : List ℕ) (f g : FileFault) → Faulty bs f → Faulty bs g → g ≡ f
 unfolding Faulty
 file-only bs =

@@ -19,5 +19,6 @@ module _ {X : Type 0} {Rule : Type 0} {Own Rest : X → Type 0} where
 pub one-only : {X : Type 0} (z : X) (x y : X) → x ≡ z → y ≡ z → y ≡ x
 one-only z x y p q = q ∙ sym p
 
+-- after the last rule
 pub none-only : {X : Type 0} (x y : X) → No-more x → No-more y → y ≡ x
 none-only x y a b = absurd a

@@ -1,4 +1,5 @@
 pub mod Coding
+pub mod Places
 pub mod Written
 pub mod Back
 pub mod Bodies

@@ -11,7 +11,6 @@ use Rattle.tables.specs.declared.refusal.Refusal.the-variants.{FileShort, Versi
 use Rattle.imageformat.specs.declared.row.Row.{Row as FileRow}
 use Rattle.imagefile.specs.Shown.{head-version, head-count, file-row}
 use Rattle.imagefile.specs.Rules.{due, Rows-rule}
-use Rattle.imagefile.specs.declared.faults.RowFault.{RowFault}
 use Rattle.imagefile.specs.declared.faults.FileFault.{FileFault}
 use Rattle.imagefile.specs.declared.faults.FileFault.the-variants.{Whole, Row}
 
@@ -34,7 +33,7 @@ pub data First {X : Type 0} (Rule : Type 0) (Own Rest : X → Type 0) (x : X) : 
 abbrev pub No-more : {X : Type 0} → X → Type 0
 No-more x = ⊥
 
--- the rules of a row whose body has to begin at a place, in their order, and the refusal of the first that it breaks
+-- the rules of a row whose body has to begin at a place, in their order, and the refusal (24, 25, 26) of the first that it breaks
 abbrev pub Row-faulty : FileRow → ℕ → Refusal → Type 0
 Row-faulty w place =
     First (Lawful-stamp (w .edition) (w .hand)) (λ f. f ≡ BadStamp)
@@ -49,7 +48,7 @@ In-row bs (Row x) =
     × Rows-rule bs (x .row)
     × Row-faulty (file-row bs (x .row)) (due bs (x .row)) (x .refusal)
 
--- the rules of a file in their order, and the fault of the first that it breaks
+-- the rules of a file in their order, and the fault (20, 21, 22, 23, one of a row, 27) of the first that it breaks
 unfoldable pub Faulty : List ℕ → FileFault → Type 0
 Faulty bs =
     First (4 ≤ length bs) (λ x. x ≡ Whole FileShort)
