@@ -1,16 +1,16 @@
 -- A file that keeps all rules is the written form of the table that it shows.
-use mathlib.Core.Path.{_≡_, refl, sym, ap, _∙_}
-use mathlib.Core.List.{List, [], _∷_, _++_, map, append-assoc}
+use mathlib.Core.Path.{_≡_, sym, ap, _∙_}
+use mathlib.Core.List.{List, _++_, map, append-assoc}
 use Prim.Native.Nat.{ℕ, zero, suc, _+_, _-_, _*_, _≤_, _<_}
 use native.Mathlib.Numerals.{add-one}
 use native.Mathlib.Omega.{arith}
-use lib.ListN.{length, getD, take, drop, length-take, length-drop, take-append-drop}
+use lib.ListN.{length, getD, take, drop, length-drop, take-append-drop}
 use Rattle.std.specs.Iters.{counting}
 use Rattle.std.proofs.shelf.Lists.{drop-all, drop-drop, length-take-le}
 use Rattle.std.proofs.shelf.Counted.{length-map-counting}
 use Rattle.tables.specs.Tables.{Table}
 use Rattle.imageformat.specs.Format.{bytes, head, row, rows, bodies, written}
-use Rattle.imagefile.specs.Shown.{head-version, head-count, file-row, file-body, file-entry, shown}
+use Rattle.imagefile.specs.Shown.{head-count, file-row, file-body, file-entry, shown}
 use Rattle.imagefile.specs.Rules.{due, Passes}
 use Rattle.imagefile.proofs.Coding.{two-kept, row-kept}
 
@@ -32,7 +32,7 @@ module _ (bs : List ℕ) (p : Passes bs) where
   due-within zero k e = let h : due bs k ≡ length bs = ap (due bs) (omega arith) ∙ p .2 in omega arith
   due-within (suc m) k e = let r = due-within m (k + 1) (omega arith) in let s = due-more k (omega arith) in omega arith
 
-  -- each body stands in the file, as long as its row says
+  -- each body ends in the file
   body-within : (m k : ℕ) → k + suc m ≡ head-count bs → file-row bs k .place + file-row bs k .length ≤ length bs
   body-within m k e =
       let r = due-within m (k + 1) (omega arith) in
@@ -41,6 +41,7 @@ module _ (bs : List ℕ) (p : Passes bs) where
   pub body-ends : (k : ℕ) → k < head-count bs → file-row bs k .place + file-row bs k .length ≤ length bs
   body-ends k h = body-within (head-count bs - suc k) k (omega arith)
 
+  -- each body is as long as its row says
   body-length : (m k : ℕ) → k + suc m ≡ head-count bs → length (file-body bs k) ≡ file-row bs k .length
   body-length m k e =
       let h = body-within m k e in
@@ -61,20 +62,22 @@ module _ (bs : List ℕ) (p : Passes bs) where
     rows-back zero k e = ap (λ i. drop (4 + 14 * i) bs) (omega arith)
     rows-back (suc m) k e =
         let at = 4 + 14 * k in
-        let w = file-row bs k in
-        let rule = p .1 k (omega arith) in
+        let rest = drop (4 + 14 * head-count bs) bs in
+        let line : ℕ → ℕ → List ℕ = row (file-row bs k .edition) (file-row bs k .hand) in
+        let place : file-row bs k .place ≡ due bs k = p .1 k (omega arith) .2 in
+        let size = length (file-body bs k) in
         let len = body-length m k e in
         let next : at + 14 ≡ 4 + 14 * (k + 1) = omega arith in
-        let due-next : due bs k + length (file-body bs k) ≡ due bs (k + 1) = ap (λ l. due bs k + l) len ∙ sym (due-more k (omega arith)) in
-        append-assoc (row (w .edition) (w .hand) (due bs k) (length (file-body bs k))) (rows (due bs k + length (file-body bs k)) (shown-from bs (k + 1) m)) (drop (4 + 14 * head-count bs) bs)
-        ∙ ap (λ q. row (w .edition) (w .hand) (due bs k) (length (file-body bs k)) ++ (rows q (shown-from bs (k + 1) m) ++ drop (4 + 14 * head-count bs) bs)) due-next
-        ∙ ap (λ l. row (w .edition) (w .hand) (due bs k) (length (file-body bs k)) ++ l) (rows-back m (k + 1) (omega arith) ∙ ap (λ i. drop i bs) (sym next))
-        ∙ ap (λ l. row (w .edition) (w .hand) (due bs k) l ++ drop (at + 14) bs) len
-        ∙ ap (λ q. row (w .edition) (w .hand) q (w .length) ++ drop (at + 14) bs) (sym (rule .2))
+        let due-next : due bs k + size ≡ due bs (k + 1) = ap (λ l. due bs k + l) len ∙ sym (due-more k (omega arith)) in
+        append-assoc (line (due bs k) size) (rows (due bs k + size) (shown-from bs (k + 1) m)) rest
+        ∙ ap (λ q. line (due bs k) size ++ (rows q (shown-from bs (k + 1) m) ++ rest)) due-next
+        ∙ ap (λ l. line (due bs k) size ++ l) (rows-back m (k + 1) (omega arith) ∙ ap (λ i. drop i bs) (sym next))
+        ∙ ap (λ l. line (due bs k) l ++ drop (at + 14) bs) len
+        ∙ ap (λ q. line q (file-row bs k .length) ++ drop (at + 14) bs) (sym place)
         ∙ ap (λ l. l ++ drop (at + 14) bs) (row-kept bs small at (omega arith))
         ∙ joined bs at 14
 
-    -- the head
+    -- the head, and all that follows it
     head-back : head (head-count bs) ++ drop 4 bs ≡ bs
     head-back =
         ap (λ v. (bytes 2 v ++ bytes 2 (head-count bs)) ++ drop 4 bs) (sym (p .0 .1))
@@ -84,6 +87,7 @@ module _ (bs : List ℕ) (p : Passes bs) where
         ∙ ap (λ l. take 2 bs ++ l) (joined bs 2 2)
         ∙ take-append-drop 2 bs
 
+    -- head, rows and bodies
     pub written-back : written (shown bs) ≡ bs
     written-back =
         let s = shown bs in

@@ -10,6 +10,7 @@ use Rattle.imageformat.specs.Rows.{row-at}
 use Rattle.imageformat.proofs.Numbers.{two-at, two-coded, two-number, four-at, four-coded, four-number, row-coded}
 
 module _ (bs : List ℕ) (small : (i : ℕ) → getD bs i 0 < 256) where
+  -- two bytes
   pub two-kept : (at : ℕ) → at + 2 ≤ length bs → bytes 2 (number-at 2 at bs) ≡ take 2 (drop at bs)
   two-kept at h =
       let w = two-at bs at h in
@@ -17,6 +18,7 @@ module _ (bs : List ℕ) (small : (i : ℕ) → getD bs i 0 < 256) where
       let b = getD bs (at + 1) 0 in
       ap (λ s. bytes 2 (number 256 s)) w ∙ ap (bytes 2) (sym (two-number a b)) ∙ two-coded a b (small at) (small (at + 1)) ∙ sym w
 
+  -- four bytes
   pub four-kept : (at : ℕ) → at + 4 ≤ length bs → bytes 4 (number-at 4 at bs) ≡ take 4 (drop at bs)
   four-kept at h =
       let w = four-at bs at h in

@@ -1,9 +1,10 @@
 pub mod Coding
+pub mod Places
 pub mod Written
 pub mod Back
 pub mod Bodies
+pub mod Firsts
 pub mod Broken
-pub mod Only
 pub mod Turns
 pub mod Verdicts
 pub mod Opened

@@ -1,8 +1,8 @@
--- The file over which a reader is made: the bytes that were lent where they are accepted, else the file of the empty table.
+-- The file over which a reader is made.
 use mathlib.Core.Path.{_≡_, refl, sym, ap, subst, _∙_}
 use mathlib.Core.List.{List, [], _∷_}
 use mathlib.Core.Logic.{_⊎_, inl, inr}
-use Prim.Native.Nat.{ℕ, _≤_, _<_}
+use Prim.Native.Nat.{ℕ, _<_}
 use native.Mathlib.Omega.{arith}
 use lib.ListN.{getD}
 use Rattle.tables.specs.Tables.{Table, Lawful}
@@ -13,12 +13,15 @@ use Rattle.imagefile.proofs.Verdicts.{accepted-passes}
 use Rattle.imagefile.proofs.Written.{shows}
 use Rattle.imagefile.proofs.Back.{written-back}
 
+-- the file of the empty table
 abbrev empty : List ℕ
 empty = 0 ∷ (1 ∷ (0 ∷ (0 ∷ [])))
 
+-- the bytes that were lent where they are accepted, else the file of the empty table
 abbrev pub Opened : List ℕ → List ℕ → Type 0
 Opened bs file = (Accepted bs × (file ≡ bs)) ⊎ ((Accepted bs → ⊥) × (file ≡ empty))
 
+-- the file of the empty table keeps all rules
 empty-passes : Passes empty
 empty-passes = ((omega arith, refl, omega arith, omega arith), (λ k h. absurd (omega arith)), refl)
 

@@ -8,8 +8,7 @@ use Rattle.imagefile.specs.Rules.{Passes}
 use Rattle.imagefile.specs.Faults.{Faulty}
 use Rattle.imagefile.specs.Laws.{shown-lawful}
 use Rattle.imagefile.specs.declared.faults.FileFault.{FileFault}
-use Rattle.imagefile.proofs.Broken.{broken}
-use Rattle.imagefile.proofs.Only.{only}
+use Rattle.imagefile.proofs.Broken.{file-broken, file-only}
 use Rattle.imagefile.proofs.Written.{passes}
 use Rattle.imagefile.proofs.Back.{written-back}
 
@@ -22,5 +21,5 @@ pub accepted : (bs : List ℕ) → ((i : ℕ) → getD bs i 0 < 256) → Passes 
 accepted bs small p = (shown bs, shown-lawful bs p, sym (written-back bs p small))
 
 -- a file with a fault has no other, and is not accepted
-pub refused : {bs : List ℕ} {f : FileFault} → Faulty bs f → Faulty bs f × ((g : FileFault) → Faulty bs g → g ≡ f) × (Accepted bs → ⊥)
-refused {bs} bad = (bad, λ g other. only bad other, λ a. broken bad (accepted-passes bs a))
+pub refused : (bs : List ℕ) (f : FileFault) → Faulty bs f → Faulty bs f × ((g : FileFault) → Faulty bs g → g ≡ f) × (Accepted bs → ⊥)
+refused bs f bad = (bad, λ g other. file-only bs f g bad other, λ a. file-broken bs f bad (accepted-passes bs a))

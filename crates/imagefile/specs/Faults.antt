@@ -10,8 +10,7 @@ use Rattle.tables.specs.declared.refusal.Refusal.{Refusal}
 use Rattle.tables.specs.declared.refusal.Refusal.the-variants.{FileShort, Version, CountHigh, RowsShort, BadStamp, RowLong, BadPlace, BadEnd}
 use Rattle.imageformat.specs.declared.row.Row.{Row as FileRow}
 use Rattle.imagefile.specs.Shown.{head-version, head-count, file-row}
-use Rattle.imagefile.specs.Rules.{Head-rule, due, Rows-rule}
-use Rattle.imagefile.specs.declared.faults.RowFault.{RowFault}
+use Rattle.imagefile.specs.Rules.{due, Rows-rule}
 use Rattle.imagefile.specs.declared.faults.FileFault.{FileFault}
 use Rattle.imagefile.specs.declared.faults.FileFault.the-variants.{Whole, Row}
 
@@ -25,26 +24,36 @@ abbrev pub fault-refusal : FileFault → Refusal
 fault-refusal (Whole f) = f
 fault-refusal (Row x) = x .refusal
 
--- what a row whose body has to begin at a place breaks first
-pub data Row-faulty (w : FileRow) (place : ℕ) : Refusal → Type 0 where
-  -- 24: its stamp is not lawful
-  bad-stamp : (Lawful-stamp (w .edition) (w .hand) → ⊥) → Row-faulty w place BadStamp
-  -- 25: its length is above 96
-  row-long : Lawful-stamp (w .edition) (w .hand) → 96 < w .length → Row-faulty w place RowLong
-  -- 26: its place is another
-  bad-place : Lawful-stamp (w .edition) (w .hand) → w .length ≤ 96 → (w .place ≡ place → ⊥) → Row-faulty w place BadPlace
+-- a rule that comes before others: it is broken and the fault is its own, or it is kept and the fault is of those after it
+pub data First {X : Type 0} (Rule : Type 0) (Own Rest : X → Type 0) (x : X) : Type 0 where
+  broken : (Rule → ⊥) → Own x → First Rule Own Rest x
+  kept : Rule → Rest x → First Rule Own Rest x
 
--- what a file breaks first
-pub data Faulty (bs : List ℕ) : FileFault → Type 0 where
-  -- 20: it is shorter than 4 bytes
-  file-short : length bs < 4 → Faulty bs (Whole FileShort)
-  -- 21: its version is not 1
-  version : 4 ≤ length bs → (head-version bs ≡ 1 → ⊥) → Faulty bs (Whole Version)
-  -- 22: its count is above 128
-  count-high : 4 ≤ length bs → head-version bs ≡ 1 → 128 < head-count bs → Faulty bs (Whole CountHigh)
-  -- 23: it ends before its rows do
-  rows-short : 4 ≤ length bs → head-version bs ≡ 1 → head-count bs ≤ 128 → length bs < 4 + 14 * head-count bs → Faulty bs (Whole RowsShort)
-  -- 24, 25, 26: the rows before the fault's row keep their rule, and this one breaks its own
-  row-faulty : {x : RowFault} → Head-rule bs → x .row < head-count bs → Rows-rule bs (x .row) → Row-faulty (file-row bs (x .row)) (due bs (x .row)) (x .refusal) → Faulty bs (Row x)
-  -- 27: it does not end where its last body does
-  bad-end : Head-rule bs → Rows-rule bs (head-count bs) → (due bs (head-count bs) ≡ length bs → ⊥) → Faulty bs (Whole BadEnd)
+-- after the last rule there is no fault
+abbrev pub No-more : {X : Type 0} → X → Type 0
+No-more x = ⊥
+
+-- the rules of a row whose body has to begin at a place, in their order, and the refusal (24, 25, 26) of the first that it breaks
+abbrev pub Row-faulty : FileRow → ℕ → Refusal → Type 0
+Row-faulty w place =
+    First (Lawful-stamp (w .edition) (w .hand)) (λ f. f ≡ BadStamp)
+    (First (w .length ≤ 96) (λ f. f ≡ RowLong)
+    (First (w .place ≡ place) (λ f. f ≡ BadPlace) No-more))
+
+-- the first row that breaks a rule, and what it breaks first
+abbrev pub In-row : List ℕ → FileFault → Type 0
+In-row bs (Whole f) = ⊥
+In-row bs (Row x) =
+    (x .row < head-count bs)
+    × Rows-rule bs (x .row)
+    × Row-faulty (file-row bs (x .row)) (due bs (x .row)) (x .refusal)
+
+-- the rules of a file in their order, and the fault (20, 21, 22, 23, one of a row, 27) of the first that it breaks
+unfoldable pub Faulty : List ℕ → FileFault → Type 0
+Faulty bs =
+    First (4 ≤ length bs) (λ x. x ≡ Whole FileShort)
+    (First (head-version bs ≡ 1) (λ x. x ≡ Whole Version)
+    (First (head-count bs ≤ 128) (λ x. x ≡ Whole CountHigh)
+    (First (4 + 14 * head-count bs ≤ length bs) (λ x. x ≡ Whole RowsShort)
+    (First (Rows-rule bs (head-count bs)) (In-row bs)
+    (First (due bs (head-count bs) ≡ length bs) (λ x. x ≡ Whole BadEnd) No-more)))))

@@ -1,7 +1,7 @@
 -- The table that a file shows is lawful where the file keeps all rules.
 use mathlib.Core.Path.{_≡_, sym, subst}
 use mathlib.Core.List.{List}
-use Prim.Native.Nat.{ℕ, _+_, _≤_, _<_}
+use Prim.Native.Nat.{ℕ, _≤_, _<_}
 use native.Mathlib.Omega.{arith}
 use lib.ListN.{length, drop, length-take}
 use Rattle.std.proofs.shelf.Counted.{length-map-counting, getD-map-counting}

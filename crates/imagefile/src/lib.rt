@@ -4,7 +4,8 @@
 // table of a file, without a copy of it.
 // May use: tables and imageformat.
 // Main promise: of arbitrary bytes, exactly the written forms of lawful tables are accepted; any other
-// bytes are refused by the first rule that they break, with the row where it is one of a row.
+// bytes are refused by the first rule that they break, with the row where it is one of a row. A reader over
+// a file shows the table that was written, and over any other bytes no entry.
 
 pub mod checks;
 pub mod faults;

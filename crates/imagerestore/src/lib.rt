@@ -5,7 +5,6 @@
 // Main promise: the file of a lawful table of equal count is in the store afterwards; any other bytes are
 // refused, by the file's fault before the difference of the counts, and the store is as it was.
 
-ghost use mathlib.Core.Path.{_≡_};
 ghost use Rattle.imagerestore.specs.Outcome.{Outcome};
 use imagefile::Reader;
 use imagefile::ReaderReadable;

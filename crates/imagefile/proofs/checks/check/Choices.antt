@@ -1,7 +1,5 @@
 use mathlib.Core.Path.{_≡_}
-use Prim.Native.Nat.{ℕ, _<_}
-use Rattle.imagefile.specs.Shown.{head-count}
-use Rattle.imagefile.specs.Rules.{Head-rule, Rows-rule, due}
+use Rattle.imagefile.specs.Rules.{Rows-rule, due}
 use Rattle.imagefile.proofs.checks.check.Given as given
 
 -- the rows so far keep their rule, and the next body has to begin where the last one ends

@@ -1,16 +1,24 @@
 use borrow.Author.Needs.{needs}
-use native.Mathlib.Omega.{arith}
-use Rattle.imagefile.specs.Faults.{file-short, version, count-high, rows-short}
+use mathlib.Core.Path.{refl}
+use Rattle.imagefile.specs.Faults.{Faulty, broken, kept}
 use Rattle.imagefile.proofs.checks.check_head.Needs as need
 
+-- the first rule is broken
 pub returns-then-bytes-lt-HEAD-BYTES : need.returns-then-bytes-lt-HEAD-BYTES
-returns-then-bytes-lt-HEAD-BYTES c = file-short (search needs)
+unfolding Faulty
+returns-then-bytes-lt-HEAD-BYTES c = broken (search needs) refl
 
+-- the second, and the one before it is kept
 pub returns-then-version-ne-VERSION : need.returns-then-version-ne-VERSION
-returns-then-version-ne-VERSION c = version (search needs) (search needs)
+unfolding Faulty
+returns-then-version-ne-VERSION c = kept (search needs) (broken (search needs) refl)
 
+-- the third, and those before it are kept
 pub returns-then-count-gt-GREATEST-COUNT : need.returns-then-count-gt-GREATEST-COUNT
-returns-then-count-gt-GREATEST-COUNT c = count-high (search needs) (search needs) (search needs)
+unfolding Faulty
+returns-then-count-gt-GREATEST-COUNT c = kept (search needs) (kept (search needs) (broken (search needs) refl))
 
+-- the fourth, and those before it are kept
 pub returns-then-bytes-count : need.returns-then-bytes-count
-returns-then-bytes-count c = rows-short (search needs) (search needs) (search needs) (search needs)
+unfolding Faulty
+returns-then-bytes-count c = kept (search needs) (kept (search needs) (kept (search needs) (broken (search needs) refl)))

@@ -6,6 +6,7 @@ use Rattle.imagefile.specs.Laws.{shown-length, shown-entry}
 use Rattle.imagefile.proofs.Bodies.{part-ends, part-is}
 use Rattle.imagefile.proofs.reader.Reader.body.Needs as need
 
+-- the body ends in the file
 pub part-result-end : need.part-result-end
 part-result-end c =
     let file = c .args .self .now in
@@ -15,6 +16,7 @@ part-result-end c =
     let h = part-ends bs (c .in-Continue-row .row) (c .args .e) (row .1) (file .head, file .rows, file .end) (omega arith) in
     search needs
 
+-- the part is the body, and the entry's text
 pub returns : need.returns
 returns c =
     let bs = c .args .self .now .bytes .now in

@@ -1,6 +1,6 @@
 use mathlib.Core.List.{List}
 use mathlib.Core.Logic.{inl, inr}
-use mathlib.Core.Path.{_≡_, ap}
+use mathlib.Core.Path.{ap}
 use Prim.Native.Nat.{ℕ}
 use native.Mathlib.Omega.{arith}
 use denote.Ref.{RefT}
@@ -16,9 +16,11 @@ opened c =
       | in-Err w ↦ inr (w .in-Err .ensures tt .2, ap (λ (r : RefT (List ℕ) × Unit {0}). r .0 .now) (w .result-is))
     ]
 
+-- the file that the reader holds keeps all rules
 pub ghost-result : need.ghost-result
 ghost-result c = let p = opened-passes (opened c) in (p .0, (p .1, (p .2, tt)))
 
+-- what it shows, by the way that was taken
 pub returns : need.returns
 returns c =
     let h = opened (need.at·returns c .Joined-check) in

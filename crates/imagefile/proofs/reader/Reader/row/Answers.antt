@@ -7,9 +7,11 @@ use Rattle.imagefile.specs.Shown.{head-count}
 use Rattle.imagefile.specs.Laws.{shown-length, shown-entry}
 use Rattle.imagefile.proofs.reader.Reader.row.Needs as need
 
+-- a row below the count stands
 pub row-of-requires : need.row-of-requires
 row-of-requires c κs = let n = shown-length (c .args .self .now .bytes .now) in omega arith
 
+-- its stamp is the entry's
 pub returns : need.returns
 returns c =
     let bs = c .args .self .now .bytes .now in
