@@ -1,4 +1,3 @@
 pub mod Overwriting
 pub mod Files
 pub mod Steps
-pub mod Turns

@@ -4,11 +4,11 @@ ghost use Prim.Native.Nat.{_+_, _≤_, _<_};
 ghost use lib.ListN.{length, take};
 ghost use Rattle.std.specs.declared.result.Result.the-variants.{Ok};
 ghost use Rattle.tables.specs.Tables.{entry};
 ghost use Rattle.imagewriter.specs.Places.{room};
 ghost use Rattle.imagewriter.specs.Standing.{Rows-stand, Bodies-stand};
-ghost use Rattle.imagewriter.specs.Saving.{Write-answer, Behind};
-use super::writer::Bodies;
-use super::writer::Rows;
+ghost use Rattle.imagesave.specs.Saving.{Write-answer, Behind};
+use imagewriter::Bodies;
+use imagewriter::Rows;
 use tables::Readable;
 use tables::Refusal;
 

@@ -6,8 +6,8 @@ use borrow.Author.Needs.{needs}
 use lib.ListN.{length, drop, getD}
 use Rattle.std.proofs.shelf.Lists.{take-more, take-more-set}
 use Rattle.tables.specs.Tables.{entry}
-use Rattle.imagewriter.proofs.Turns.{text-copied}
-use Rattle.imagewriter.proofs.saving.copy_text.Needs as need
+use Rattle.imagesave.proofs.Turns.{text-copied}
+use Rattle.imagesave.proofs.saving.copy_text.Needs as need
 
 pub loop-i-again : need.loop-i-again
 loop-i-again g c =

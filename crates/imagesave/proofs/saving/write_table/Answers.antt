@@ -5,10 +5,10 @@ use borrow.Author.Needs.{needs}
 use lib.ListN.{length}
 use Rattle.std.specs.declared.result.Result.the-variants.{Ok}
 use Rattle.imageformat.specs.Format.{written}
 use Rattle.imagewriter.specs.Places.{room}
-use Rattle.imagewriter.specs.Saving.{Behind}
-use Rattle.imagewriter.proofs.Turns.{head-turn, whole}
-use Rattle.imagewriter.proofs.saving.write_table.Needs as need
+use Rattle.imagesave.specs.Saving.{Behind}
+use Rattle.imagesave.proofs.Turns.{head-turn, whole}
+use Rattle.imagesave.proofs.saving.write_table.Needs as need
 
 pub returns-in-Ok-finish : need.returns-in-Ok-finish
 returns-in-Ok-finish g c =
