@@ -1,5 +1,5 @@
 -- One turn of each loop over a table's entries.
-use mathlib.Core.Path.{_≡_, refl, sym, ap, subst, _∙_}
+use mathlib.Core.Path.{_≡_, sym, ap, subst, _∙_}
 use mathlib.Core.List.{List, [], _∷_, _++_}
 use Prim.Native.Nat.{ℕ, _+_, _<_, _≤_}
 use native.Mathlib.Omega.{arith}
@@ -18,7 +18,7 @@ use Rattle.imagewriter.specs.declared.writer.Rows.{Rows}
 use Rattle.imagewriter.specs.declared.writer.Bodies.{Bodies}
 use Rattle.imagewriter.proofs.Overwriting.{drop-put}
 use Rattle.imagewriter.proofs.Files.{bodies-append, length-written}
-use Rattle.imagewriter.proofs.Steps.{own-fits}
+use Rattle.imagewriter.proofs.BodiesStand.{own-fits}
 
 -- the first bodies are no longer than all
 pub bodies-within : (t : Table) (k : ℕ) → length (bodies (take k t)) ≤ length (bodies t)

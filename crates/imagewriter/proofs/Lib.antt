@@ -1,3 +1,4 @@
 pub mod Overwriting
 pub mod Files
-pub mod Steps
+pub mod RowsStand
+pub mod BodiesStand

@@ -3,7 +3,7 @@ use mathlib.Core.List.{[], _∷_, _++_}
 use Prim.Native.Nat.{_<_, _≤_}
 use native.Mathlib.Omega.{arith}
 use borrow.Author.Needs.{needs}
-use lib.ListN.{length, drop, getD}
+use lib.ListN.{length, getD}
 use Rattle.std.proofs.shelf.Lists.{take-more, take-more-set}
 use Rattle.tables.specs.Tables.{entry}
 use Rattle.imagesave.proofs.Turns.{text-copied}

@@ -20,5 +20,5 @@ returns-in-Ok-finish g c =
     let few = g .R·Readable .lawful from .0 in
     let file = c .finish .ensures .meaning t buf (c .write-bodies .ensures .stand) (c .write-bodies .ensures .all) in
     let long : c .in-Ok-finish .length ≡ length (written t) = cc (file .0) in
-    let begun : room n ≤ length was → Behind t was (c .begin .last .buf) = λ wide. head-turn t n was (c .begin .last .buf) wide (c .begin .ensures .answer .2 (omega arith) wide .1) in
+    let begun : room n ≤ length was → Behind t was (c .begin .last .buf) = λ wide. head-turn t n was (c .begin .last .buf) wide (c .in-Continue-rows .ensures tt .answer .2 (omega arith) wide .1) in
     (λ roomy. (ap Ok long, whole t was buf (file .1) (c .write-bodies .ensures .behind ∙ c .write-rows .ensures .behind ∙ begun (omega arith))), search needs)
