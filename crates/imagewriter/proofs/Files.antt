@@ -1,12 +1,12 @@
 -- The parts of a file, entry by entry.
 use mathlib.Core.Path.{_≡_, refl, sym, ap, _∙_}
 use mathlib.Core.List.{List, [], _∷_, _++_}
-use Prim.Native.Nat.{ℕ, zero, suc, _+_, _*_, _<_, _≤_}
+use Prim.Native.Nat.{ℕ, zero, suc, _+_, _*_, _<_}
 use native.Mathlib.Nat.{add-zero}
 use native.Mathlib.Omega.{arith}
 use lib.ListN.{length, take, drop}
 use lib.Seq.{drop-append-add}
-use Rattle.std.proofs.shelf.Lists.{append-assoc, append-nil, length-append, take-more, take-append-drop}
+use Rattle.std.proofs.shelf.Lists.{append-assoc, append-nil, length-append, take-more}
 use Rattle.tables.specs.Tables.{Entry, Table, blank, entry}
 use Rattle.imageformat.specs.Format.{bytes, row, rows, bodies, written}
 
@@ -39,12 +39,6 @@ bodies-append (y ∷ s) t =
 -- one more body
 pub bodies-push : (t : Table) (x : Entry) → bodies (t ++ (x ∷ [])) ≡ bodies t ++ x .text
 bodies-push t x = bodies-append t (x ∷ []) ∙ ap (λ z. bodies t ++ z) (append-nil (x .text))
-
--- the first bodies are no longer than all
-pub bodies-within : (t : Table) (k : ℕ) → length (bodies (take k t)) ≤ length (bodies t)
-bodies-within t k =
-    let parts = ap bodies (take-append-drop k t) in
-    omega (arith, ap length (bodies-append (take k t) (drop k t)), ap length parts, length-append (bodies (take k t)) (bodies (drop k t)))
 
 -- the length in row k is that of entry k
 pub length-in-rows : (p : ℕ) (t : Table) (k : ℕ) (rest : List ℕ) → k < length t → take 2 (drop (14 * k + 12) (rows p t ++ rest)) ≡ bytes 2 (length (entry t k .text))

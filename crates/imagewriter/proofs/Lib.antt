@@ -1,4 +1,4 @@
 pub mod Overwriting
 pub mod Files
-pub mod Steps
-pub mod Turns
+pub mod RowsStand
+pub mod BodiesStand

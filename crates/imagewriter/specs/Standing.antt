@@ -21,9 +21,9 @@ Rows-stand t w buf =
     × (w .place ≡ row-place (w .count) + length (bodies t))
     × (take (row-place (length t)) buf ≡ head (w .count) ++ rows (row-place (w .count)) t)
 
--- a begun writer has no row
+-- a begun writer has no row, and its buffer is never too short for it
 abbrev pub Begin-means : Result Rows Refusal → List ℕ → Type 0
-Begin-means (Ok w) buf = Rows-stand [] w buf
+Begin-means (Ok w) buf = Rows-stand [] w buf × (room (w .count) ≤ length buf)
 Begin-means (Err f) buf = Unit {0}
 
 -- a row that is taken is that of a new last entry; of its text only the length matters yet

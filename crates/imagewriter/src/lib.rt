@@ -6,9 +6,7 @@
 // Main promise: where only the writer wrote the buffer, the finished file is the file of the table whose rows
 // and bodies were offered; a refused call leaves the writer and the buffer as they were.
 
-pub mod saving;
 pub mod writer;
 
-pub use saving::write_table;
 pub use writer::Bodies;
 pub use writer::Rows;

@@ -20,9 +20,10 @@ pub struct Rows {
     count: usize,
     standing: usize,
     place: usize,
+    // what the calls keep: few entries, no more of them standing than there are, no body above 96 bytes
     ghost few: { count ≤ 128 },
     ghost within: { standing ≤ count },
-    ghost near: { place ≤ 4 + 14 * count + 96 * standing },
+    ghost bounded: { place ≤ 4 + 14 * count + 96 * standing },
 }
 
 // A writer that takes bodies: all `count` rows are written, and the first `standing` bodies; the next one
@@ -32,7 +33,8 @@ pub struct Bodies {
     count: usize,
     standing: usize,
     place: usize,
+    // what the calls keep: few entries, no more of them standing than there are, no body above 96 bytes
     ghost few: { count ≤ 128 },
     ghost within: { standing ≤ count },
-    ghost near: { place ≤ 4 + 14 * count + 96 * standing },
+    ghost bounded: { place ≤ 4 + 14 * count + 96 * standing },
 }

@@ -1,7 +1,7 @@
-use mathlib.Core.Path.{_≡_, ap}
+use mathlib.Core.Path.{ap}
 use borrow.Author.Needs.{needs}
 use Rattle.std.specs.declared.result.Result.the-variants.{Ok}
-use Rattle.imagewriter.proofs.Steps.{finish-stands}
+use Rattle.imagewriter.proofs.BodiesStand.{finish-stands}
 use Rattle.imagewriter.proofs.writer.Bodies.finish.Needs as need
 
 pub returns : need.returns

@@ -6,7 +6,7 @@ use lib.ListN.{length}
 use Rattle.tables.specs.Tables.{Lawful-stamp, of}
 use Rattle.imageformat.specs.Format.{row}
 use Rattle.imagewriter.specs.Places.{room, row-place, put-at}
-use Rattle.imagewriter.proofs.Steps.{row-stands}
+use Rattle.imagewriter.proofs.RowsStand.{row-stands}
 use Rattle.imagewriter.proofs.writer.Rows.row.Needs as need
 
 pub returns : need.returns

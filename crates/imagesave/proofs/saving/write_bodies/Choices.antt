@@ -1,7 +1,7 @@
 use mathlib.Core.Path.{_≡_}
-use Rattle.imagewriter.specs.Saving.{Behind}
+use Rattle.imagesave.specs.Saving.{Behind}
 use Rattle.imagewriter.specs.Standing.{Bodies-stand}
-use Rattle.imagewriter.proofs.saving.write_bodies.Given as given
+use Rattle.imagesave.proofs.saving.write_bodies.Given as given
 
 abbrev pub Inv-loop-e : given.InvT-loop-e
 Inv-loop-e g l =

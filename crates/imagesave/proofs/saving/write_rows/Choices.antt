@@ -1,8 +1,8 @@
 use mathlib.Core.Path.{_≡_}
 use lib.ListN.{length, take}
-use Rattle.imagewriter.specs.Saving.{Behind}
+use Rattle.imagesave.specs.Saving.{Behind}
 use Rattle.imagewriter.specs.Standing.{Rows-stand}
-use Rattle.imagewriter.proofs.saving.write_rows.Given as given
+use Rattle.imagesave.proofs.saving.write_rows.Given as given
 
 abbrev pub Inv-loop-e : given.InvT-loop-e
 Inv-loop-e g l =

@@ -1,24 +1,30 @@
 -- One turn of each loop over a table's entries.
-use mathlib.Core.Path.{_≡_, refl, sym, ap, subst, _∙_}
+use mathlib.Core.Path.{_≡_, sym, ap, subst, _∙_}
 use mathlib.Core.List.{List, [], _∷_, _++_}
 use Prim.Native.Nat.{ℕ, _+_, _<_, _≤_}
 use native.Mathlib.Omega.{arith}
 use lib.ListN.{length, take, drop}
 use Rattle.std.specs.declared.result.Result.{Result}
 use Rattle.std.specs.declared.result.Result.the-variants.{Ok}
-use Rattle.std.proofs.shelf.Lists.{length-take-le, take-more, take-at, take-append-drop}
+use Rattle.std.proofs.shelf.Lists.{length-append, length-take-le, take-more, take-at, take-append-drop}
 use Rattle.tables.specs.declared.refusal.Refusal.{Refusal}
 use Rattle.tables.specs.Tables.{Table, Lawful, blank, entry, of}
-use Rattle.imageformat.specs.Format.{head, row, written}
+use Rattle.imageformat.specs.Format.{head, row, bodies, written}
 use Rattle.imagewriter.specs.Places.{room, row-place, put-at}
 use Rattle.imagewriter.specs.Answers.{Row-answer, Body-answer}
-use Rattle.imagewriter.specs.Saving.{Behind}
+use Rattle.imagesave.specs.Saving.{Behind}
 use Rattle.imagewriter.specs.Standing.{Rows-stand, Bodies-stand, Row-means, Body-means}
 use Rattle.imagewriter.specs.declared.writer.Rows.{Rows}
 use Rattle.imagewriter.specs.declared.writer.Bodies.{Bodies}
 use Rattle.imagewriter.proofs.Overwriting.{drop-put}
-use Rattle.imagewriter.proofs.Files.{bodies-within, length-written}
-use Rattle.imagewriter.proofs.Steps.{own-fits}
+use Rattle.imagewriter.proofs.Files.{bodies-append, length-written}
+use Rattle.imagewriter.proofs.BodiesStand.{own-fits}
+
+-- the first bodies are no longer than all
+pub bodies-within : (t : Table) (k : ℕ) → length (bodies (take k t)) ≤ length (bodies t)
+bodies-within t k =
+    let parts = ap bodies (take-append-drop k t) in
+    omega (arith, ap length (bodies-append (take k t) (drop k t)), ap length parts, length-append (bodies (take k t)) (bodies (drop k t)))
 
 -- the head is written
 pub head-turn : (t : Table) (n : ℕ) (buf buf′ : List ℕ) → room n ≤ length buf → buf′ ≡ put-at 0 (head n) buf → Behind t buf buf′

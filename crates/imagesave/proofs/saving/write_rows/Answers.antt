@@ -1,9 +1,9 @@
-use mathlib.Core.Path.{_≡_, refl, subst}
+use mathlib.Core.Path.{refl, subst}
 use native.Mathlib.Omega.{arith}
 use Rattle.std.proofs.shelf.Lists.{take-all}
 use Rattle.tables.specs.Tables.{Table}
 use Rattle.imagewriter.specs.Standing.{Rows-stand}
-use Rattle.imagewriter.proofs.saving.write_rows.Needs as need
+use Rattle.imagesave.proofs.saving.write_rows.Needs as need
 
 pub returns : need.returns
 returns g c =

@@ -5,10 +5,10 @@ use borrow.Author.Needs.{needs}
 use lib.ListN.{length}
 use Rattle.std.specs.declared.result.Result.the-variants.{Ok}
 use Rattle.imageformat.specs.Format.{written}
 use Rattle.imagewriter.specs.Places.{room}
-use Rattle.imagewriter.specs.Saving.{Behind}
-use Rattle.imagewriter.proofs.Turns.{head-turn, whole}
-use Rattle.imagewriter.proofs.saving.write_table.Needs as need
+use Rattle.imagesave.specs.Saving.{Behind}
+use Rattle.imagesave.proofs.Turns.{head-turn, whole}
+use Rattle.imagesave.proofs.saving.write_table.Needs as need
 
 pub returns-in-Ok-finish : need.returns-in-Ok-finish
 returns-in-Ok-finish g c =
@@ -20,5 +20,5 @@ returns-in-Ok-finish g c =
     let few = g .R·Readable .lawful from .0 in
     let file = c .finish .ensures .meaning t buf (c .write-bodies .ensures .stand) (c .write-bodies .ensures .all) in
     let long : c .in-Ok-finish .length ≡ length (written t) = cc (file .0) in
-    let begun : room n ≤ length was → Behind t was (c .begin .last .buf) = λ wide. head-turn t n was (c .begin .last .buf) wide (c .begin .ensures .answer .2 (omega arith) wide .1) in
+    let begun : room n ≤ length was → Behind t was (c .begin .last .buf) = λ wide. head-turn t n was (c .begin .last .buf) wide (c .in-Continue-rows .ensures tt .answer .2 (omega arith) wide .1) in
     (λ roomy. (ap Ok long, whole t was buf (file .1) (c .write-bodies .ensures .behind ∙ c .write-rows .ensures .behind ∙ begun (omega arith))), search needs)

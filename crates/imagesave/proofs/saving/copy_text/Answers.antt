@@ -3,11 +3,11 @@ use mathlib.Core.List.{[], _∷_, _++_}
 use Prim.Native.Nat.{_<_, _≤_}
 use native.Mathlib.Omega.{arith}
 use borrow.Author.Needs.{needs}
-use lib.ListN.{length, drop, getD}
+use lib.ListN.{length, getD}
 use Rattle.std.proofs.shelf.Lists.{take-more, take-more-set}
 use Rattle.tables.specs.Tables.{entry}
-use Rattle.imagewriter.proofs.Turns.{text-copied}
-use Rattle.imagewriter.proofs.saving.copy_text.Needs as need
+use Rattle.imagesave.proofs.Turns.{text-copied}
+use Rattle.imagesave.proofs.saving.copy_text.Needs as need
 
 pub loop-i-again : need.loop-i-again
 loop-i-again g c =

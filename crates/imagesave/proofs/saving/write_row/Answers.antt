@@ -2,8 +2,8 @@ use mathlib.Core.Path.{_≡_, ap}
 use Prim.Native.Nat.{ℕ}
 use lib.ListN.{length}
 use Rattle.tables.specs.Tables.{entry}
-use Rattle.imagewriter.proofs.Turns.{row-turn}
-use Rattle.imagewriter.proofs.saving.write_row.Needs as need
+use Rattle.imagesave.proofs.Turns.{row-turn}
+use Rattle.imagesave.proofs.saving.write_row.Needs as need
 
 pub returns : need.returns
 returns g c =

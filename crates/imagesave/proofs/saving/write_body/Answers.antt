@@ -3,8 +3,8 @@ use native.Mathlib.Nat.{sub-zero}
 use Prim.Native.Nat.{_-_}
 use lib.ListN.{length, take}
 use Rattle.tables.specs.Tables.{entry}
-use Rattle.imagewriter.proofs.Turns.{body-turn}
-use Rattle.imagewriter.proofs.saving.write_body.Needs as need
+use Rattle.imagesave.proofs.Turns.{body-turn}
+use Rattle.imagesave.proofs.saving.write_body.Needs as need
 
 pub returns : need.returns
 returns g c =

@@ -4,20 +4,23 @@ ghost use Prim.Native.Nat.{_+_, _≤_, _<_};
 ghost use lib.ListN.{length, take};
 ghost use Rattle.std.specs.declared.result.Result.the-variants.{Ok};
 ghost use Rattle.tables.specs.Tables.{entry};
 ghost use Rattle.imagewriter.specs.Places.{room};
 ghost use Rattle.imagewriter.specs.Standing.{Rows-stand, Bodies-stand};
-ghost use Rattle.imagewriter.specs.Saving.{Write-answer, Behind};
-use super::writer::Bodies;
-use super::writer::Rows;
+ghost use Rattle.imagesave.specs.Saving.{Write-answer, Behind};
+use imagewriter::Bodies;
+use imagewriter::Rows;
 use tables::Readable;
 use tables::Refusal;
+
+// The most bytes that a text may have.
+const MOST_TEXT_BYTES: usize = 96;
 
 // The length of an entry's text.
 fn text_length<R: Readable>(from: &R, e: usize) -> Result<usize, Refusal>
     requires { ⌜ e < length (R·Readable .table (now from)) ⌝ }
     ensures { λ r. ⌜ r ≡ Ok (length (entry (R·Readable .table (now (from .entry))) e .text)) ⌝ }
 {
-    let mut text = [0u8; 96];
+    let mut text = [0u8; MOST_TEXT_BYTES];
     from.text(e, &mut text)
 }
 
@@ -28,7 +31,7 @@ fn copy_text<R: Readable>(from: &R, e: usize, out: &mut [u8]) -> Result<usize, R
     ensures answer { λ r. ⌜ r ≡ Ok (length (entry (R·Readable .table (now (from .entry))) e .text)) ⌝ }
     ensures copied { λ _. ⌜ take (length (entry (R·Readable .table (now (from .entry))) e .text)) (now (out .exit)) ≡ entry (R·Readable .table (now (from .entry))) e .text ⌝ }
 {
-    let mut fetched = [0u8; 96];
+    let mut fetched = [0u8; MOST_TEXT_BYTES];
     let length = from.text(e, &mut fetched)?;
     for i in 0..length {
         out[i] = fetched[i];
@@ -89,7 +92,7 @@ fn write_body<R: Readable>(
     ensures stand { λ _. ⌜ Bodies-stand (R·Readable .table (now (from .entry))) (now (bodies .exit)) (now (buf .exit)) ⌝ }
     ensures behind { λ _. ⌜ Behind (R·Readable .table (now (from .entry))) (now (buf .entry)) (now (buf .exit)) ⌝ }
 {
-    let mut text = [0u8; 96];
+    let mut text = [0u8; MOST_TEXT_BYTES];
     let length = copy_text(from, e, &mut text)?;
     bodies.body(buf, &text[0..length])
 }
