@@ -12,7 +12,7 @@ use compare::compare_tables;
 use imagefile::Reader;
 use imagefile::ReaderReadable;
 use imagerestore::restore_file;
-use imagewriter::write_table;
+use imagesave::write_table;
 use tables::Readable;
 use tables::Store;
 
