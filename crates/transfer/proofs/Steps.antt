@@ -15,7 +15,7 @@ use Rattle.imageformat.specs.Format.{written}
 use Rattle.imagerestore.specs.Outcome.{Outcome}
 use Rattle.imagerestore.specs.declared.fault.RestoreFault.{RestoreFault}
 use Rattle.imagerestore.specs.declared.fault.RestoreFault.the-variants.{Table as Of-table}
-use Rattle.imagewriter.specs.Saving.{Write-answer}
+use Rattle.imagesave.specs.Saving.{Write-answer}
 use Rattle.compare.specs.Compared.{Compared}
 use Rattle.compare.specs.declared.Comparison.{Comparison}
 use Rattle.compare.specs.declared.Comparison.the-variants.{Same, CountsDiffer as Counts-differ, Entry}
