@@ -3,6 +3,7 @@
 // Job: reads a listing from standard input, one entry a line, and prints each step with its figures.
 // May use: every library below. The work is done there; here it is only called and printed.
 use compare::Comparison;
+use imageformat::LONGEST_FILE;
 use input::read_input;
 use listing::BadLine;
 use listing::LineFault;
@@ -15,6 +16,7 @@ use slots::SlotReadable;
 use slots::SlotStore;
 use std::io;
 use std::io::Write;
+use tables::LONGEST_TEXT;
 use tables::Readable;
 use transfer::Transfer;
 use transfer::TransferFault;
@@ -22,12 +24,6 @@ use transfer::transfer_table;
 
 // The most bytes of standard input that are read.
 const MOST_INPUT: usize = 65_536;
-
-// The most bytes that a text has.
-const LONGEST_TEXT: usize = 96;
-
-// The bytes of a writer's buffer for 128 entries: 4 + 110 × 128.
-const LONGEST_FILE: usize = 14_084;
 
 // Tells each line that was passed over.
 fn show_bad_lines(rt: &LibcRuntime, bad: &[BadLine]) -> io::Result<()> {

@@ -11,11 +11,9 @@ ghost use lib.ListN.{length};
 ghost use Rattle.std.specs.Orderings.{Decides};
 ghost use Rattle.tables.specs.Tables.{entry};
 ghost use Rattle.compare.specs.Compared.{Same-stamp, Compared};
+use tables::LONGEST_TEXT;
 use tables::Readable;
 use tables::refusal::RefusalPartialEq;
-
-// The most bytes that a text has.
-const LONGEST_TEXT: usize = 96;
 
 // How two tables compare.
 #[derive(Clone, Copy, PartialEq, Eq, Debug)]

@@ -11,17 +11,12 @@ use super::faults::RowToFile;
 use imageformat::HEAD_BYTES;
 use imageformat::ROW_BYTES;
 use imageformat::Row;
+use imageformat::VERSION;
 use imageformat::u16_at;
+use tables::LONGEST_TEXT;
+use tables::MOST_ENTRIES;
 use tables::Refusal;
 use tables::Stamp;
-
-// The greatest count that a file's head may say, and the greatest length that a row may.
-const GREATEST_COUNT: usize = 128;
-
-const GREATEST_LENGTH: u16 = 96;
-
-// The version of the files that are read here.
-const VERSION: u16 = 1;
 
 // The count that a file's head says, where the head stands.
 pub(crate) fn count_of(bytes: &[u8]) -> usize
@@ -51,7 +46,7 @@ fn check_head(bytes: &[u8]) -> Result<usize, FileFault>
         return Err(FileFault::Whole(Refusal::Version));
     }
     let count = count_of(bytes);
-    if count > GREATEST_COUNT {
+    if count > MOST_ENTRIES {
         return Err(FileFault::Whole(Refusal::CountHigh));
     }
     if bytes.len() < HEAD_BYTES + ROW_BYTES * count {
@@ -69,7 +64,7 @@ fn check_row(bytes: &[u8], k: usize, place: usize) -> Result<usize, RowFault>
     if let Err(refusal) = Stamp::new(row.edition, row.hand) {
         return Err(RowFault { row: k, refusal });
     }
-    if row.length > GREATEST_LENGTH {
+    if row.length as usize > LONGEST_TEXT {
         return Err(RowFault {
             row: k,
             refusal: Refusal::RowLong,

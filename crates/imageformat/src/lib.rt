@@ -9,7 +9,9 @@
 pub mod row;
 
 pub use row::HEAD_BYTES;
+pub use row::LONGEST_FILE;
 pub use row::ROW_BYTES;
 pub use row::Row;
+pub use row::VERSION;
 pub use row::head_bytes;
 pub use row::u16_at;

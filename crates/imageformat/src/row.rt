@@ -4,14 +4,19 @@ ghost use lib.ListN.{length, take, drop};
 ghost use Rattle.std.specs.declared.option.Option.the-variants.{Some, None};
 ghost use Rattle.imageformat.specs.Format.{bytes as coded, head, row as coded-row, number-at};
 ghost use Rattle.imageformat.specs.Rows.{row-at};
+use tables::LONGEST_TEXT;
+use tables::MOST_ENTRIES;
 
 // The file's version.
-const VERSION: u16 = 1;
+pub const VERSION: u16 = 1;
 
 // The bytes of a file's head, and of a row.
 pub const HEAD_BYTES: usize = 4;
 
 pub const ROW_BYTES: usize = 14;
+
+// The bytes of a writer's buffer that suffice for every file.
+pub const LONGEST_FILE: usize = HEAD_BYTES + (ROW_BYTES + LONGEST_TEXT) * MOST_ENTRIES;
 
 // One row of the file's contents: the stamp of an entry, where its body begins, and how long it is.
 #[derive(Clone, Copy, PartialEq, Eq, Debug)]

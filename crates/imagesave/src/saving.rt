@@ -9,18 +9,16 @@ ghost use Rattle.imagewriter.specs.Standing.{Rows-stand, Bodies-stand};
 ghost use Rattle.imagesave.specs.Saving.{Write-answer, Behind};
 use imagewriter::Bodies;
 use imagewriter::Rows;
+use tables::LONGEST_TEXT;
 use tables::Readable;
 use tables::Refusal;
-
-// The most bytes that a text may have.
-const MOST_TEXT_BYTES: usize = 96;
 
 // The length of an entry's text.
 fn text_length<R: Readable>(from: &R, e: usize) -> Result<usize, Refusal>
     requires { ⌜ e < length (R·Readable .table (now from)) ⌝ }
     ensures { λ r. ⌜ r ≡ Ok (length (entry (R·Readable .table (now (from .entry))) e .text)) ⌝ }
 {
-    let mut text = [0u8; MOST_TEXT_BYTES];
+    let mut text = [0u8; LONGEST_TEXT];
     from.text(e, &mut text)
 }
 
@@ -31,7 +29,7 @@ fn copy_text<R: Readable>(from: &R, e: usize, out: &mut [u8]) -> Result<usize, R
     ensures answer { λ r. ⌜ r ≡ Ok (length (entry (R·Readable .table (now (from .entry))) e .text)) ⌝ }
     ensures copied { λ _. ⌜ take (length (entry (R·Readable .table (now (from .entry))) e .text)) (now (out .exit)) ≡ entry (R·Readable .table (now (from .entry))) e .text ⌝ }
 {
-    let mut fetched = [0u8; MOST_TEXT_BYTES];
+    let mut fetched = [0u8; LONGEST_TEXT];
     let length = from.text(e, &mut fetched)?;
     for i in 0..length {
         out[i] = fetched[i];
@@ -92,7 +90,7 @@ fn write_body<R: Readable>(
     ensures stand { λ _. ⌜ Bodies-stand (R·Readable .table (now (from .entry))) (now (bodies .exit)) (now (buf .exit)) ⌝ }
     ensures behind { λ _. ⌜ Behind (R·Readable .table (now (from .entry))) (now (buf .entry)) (now (buf .exit)) ⌝ }
 {
-    let mut text = [0u8; MOST_TEXT_BYTES];
+    let mut text = [0u8; LONGEST_TEXT];
     let length = copy_text(from, e, &mut text)?;
     bodies.body(buf, &text[0..length])
 }

@@ -1,17 +1,13 @@
 ghost use Prim.Native.Nat.{_+_, _*_, _≤_};
+use imageformat::ROW_BYTES;
+use tables::LONGEST_TEXT;
 
 mod buffer;
 mod writing_bodies;
 mod writing_rows;
 
-// The most entries that a file may have.
-const MOST_ENTRIES: usize = 128;
-
-// The most bytes that a body may have.
-const MOST_BODY_BYTES: usize = 96;
-
 // The most bytes that an entry takes in a file: its row and its body.
-const MOST_ENTRY_BYTES: usize = 110;
+const MOST_ENTRY_BYTES: usize = ROW_BYTES + LONGEST_TEXT;
 
 // A writer that takes rows: of `count` rows the first `standing` are written, and the body of the next one
 // will begin at `place`.

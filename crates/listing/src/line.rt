@@ -4,13 +4,11 @@ ghost use Rattle.std.specs.declared.result.Result.the-variants.{Ok, Err};
 ghost use Rattle.tables.specs.Tables.{of};
 ghost use Rattle.listing.specs.Said.{said};
 ghost use Rattle.listing.specs.Listing.{listed-line};
+use tables::LONGEST_TEXT;
 use tables::Refusal;
 use tables::stamp::GREATEST_HAND;
 use words::cut_at;
 use words::number;
-
-// The most bytes that a text may have.
-const MOST_TEXT: usize = 96;
 
 // Why a line is passed over.
 #[derive(Clone, Copy)]
@@ -69,7 +67,7 @@ pub fn parse_line(line: &[u8]) -> Result<Item<'_>, LineFault>
     let Some(x) = split_fields(line) else {
         return Err(LineFault::Malformed);
     };
-    if x.text.len() > MOST_TEXT {
+    if x.text.len() > LONGEST_TEXT {
         return Err(LineFault::Refused(Refusal::LongText));
     }
     if x.edition > x.hand || x.hand > GREATEST_HAND as u64 {

@@ -1,8 +1,5 @@
-// The most entries that a store has.
-pub(crate) const MOST_ENTRIES: usize = 128;
-
-// The most bytes that a text has.
-pub(crate) const LONGEST_TEXT: usize = 96;
+use tables::LONGEST_TEXT;
+use tables::MOST_ENTRIES;
 
 // The bytes that a page has.
 pub(crate) const PAGE: usize = 16;

@@ -4,9 +4,9 @@ ghost use lib.ListN.{take};
 ghost use Rattle.std.specs.Joined.{joined};
 ghost use Rattle.pages.specs.Chains.{size};
 ghost use Rattle.pages.specs.Blocks.{blocks};
-use super::page::LONGEST_TEXT;
 use super::page::PAGE;
 use super::stock::Stock;
+use tables::LONGEST_TEXT;
 
 impl Stock {
     // The blocks of entry `e`, one after another.

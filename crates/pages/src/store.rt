@@ -1,8 +1,8 @@
 ghost use mathlib.Core.Path.{_≡_};
 ghost use lib.ListN.{length};
 ghost use Rattle.pages.specs.Rows.{Fits};
-use super::page::MOST_ENTRIES;
 use super::stock::Stock;
+use tables::MOST_ENTRIES;
 use tables::Stamp;
 
 // What an entry has beside its pages: the length of its text, and its stamp.

@@ -12,13 +12,11 @@ ghost use lib.ListN.{length, set, take, drop};
 ghost use Rattle.std.specs.declared.result.Result.the-variants.{Ok};
 ghost use Rattle.tables.specs.Tables.{entry};
 ghost use Rattle.restore.specs.Restored.{Restored};
+use tables::LONGEST_TEXT;
 use tables::Readable;
 use tables::Refusal;
 use tables::Stamp;
 use tables::Store;
-
-// The most bytes that a text has.
-const LONGEST_TEXT: usize = 96;
 
 // Puts every entry of `from` into `to`; refusal 15 where the counts differ.
 pub fn restore<R: Readable, S: Store>(from: &R, to: &mut S) -> Result<(), Refusal>

@@ -1,13 +1,9 @@
 ghost use mathlib.Core.Path.{_≡_};
 ghost use Prim.Native.Nat.{_≤_};
 ghost use lib.ListN.{length};
+use tables::LONGEST_TEXT;
+use tables::MOST_ENTRIES;
 use tables::Stamp;
-
-// The most entries that a store has.
-pub(crate) const MOST_ENTRIES: usize = 128;
-
-// The most bytes that a text has.
-pub(crate) const LONGEST_TEXT: usize = 96;
 
 // The place of one entry: its text stands in the first `len` bytes.
 #[derive(Clone, Copy)]

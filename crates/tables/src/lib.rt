@@ -6,6 +6,12 @@
 // Main promise: whatever implements the traits answers as its table says, and refuses only where, and by the
 // number that, the rules name.
 
+// The most entries that a table has.
+pub const MOST_ENTRIES: usize = 128;
+
+// The most bytes that a text has.
+pub const LONGEST_TEXT: usize = 96;
+
 pub mod buffer;
 pub mod readable;
 pub mod refusal;

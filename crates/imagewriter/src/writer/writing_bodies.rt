@@ -1,10 +1,10 @@
 ghost use Rattle.imagewriter.specs.Answers.{Body-answer, Finish-answer};
 ghost use Rattle.imagewriter.specs.Standing.{Body-means, Finish-means};
 use super::Bodies;
-use super::MOST_BODY_BYTES;
 use super::buffer::length_in_row;
 use super::buffer::put_bytes;
 use super::buffer::room_for;
+use tables::LONGEST_TEXT;
 use tables::Refusal;
 
 impl Bodies {
@@ -19,7 +19,7 @@ impl Bodies {
         if self.standing == self.count {
             return Err(Refusal::AllStand);
         }
-        if text.len() > MOST_BODY_BYTES || text.len() != length_in_row(buf, self.standing) {
+        if text.len() > LONGEST_TEXT || text.len() != length_in_row(buf, self.standing) {
             return Err(Refusal::BodyLength);
         }
         put_bytes(buf, self.place, text);

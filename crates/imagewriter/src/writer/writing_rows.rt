@@ -1,14 +1,14 @@
 ghost use Rattle.imagewriter.specs.Answers.{Begin-answer, Row-answer, Turn-answer};
 ghost use Rattle.imagewriter.specs.Standing.{Begin-means, Row-means, Turn-means};
 use super::Bodies;
-use super::MOST_BODY_BYTES;
-use super::MOST_ENTRIES;
 use super::Rows;
 use super::buffer::place_of_row;
 use super::buffer::put_bytes;
 use super::buffer::room_for;
 use imageformat::Row;
 use imageformat::head_bytes;
+use tables::LONGEST_TEXT;
+use tables::MOST_ENTRIES;
 use tables::Refusal;
 use tables::Stamp;
 
@@ -44,7 +44,7 @@ impl Rows {
         ensures meaning { λ r. ⌜ Row-means (now (self .entry)) (now (buf .entry)) edition hand length r (now (self .exit)) (now (buf .exit)) ⌝ }
     {
         let stamp = Stamp::new(edition, hand)?;
-        if length > MOST_BODY_BYTES {
+        if length > LONGEST_TEXT {
             return Err(Refusal::RowLong);
         }
         if buf.len() < room_for(self.count) {

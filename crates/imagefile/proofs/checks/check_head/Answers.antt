@@ -14,9 +14,9 @@ unfolding Faulty
 returns-then-version-ne-VERSION c = kept (search needs) (broken (search needs) refl)
 
 -- the third, and those before it are kept
-pub returns-then-count-gt-GREATEST-COUNT : need.returns-then-count-gt-GREATEST-COUNT
+pub returns-then-count-gt-MOST-ENTRIES : need.returns-then-count-gt-MOST-ENTRIES
 unfolding Faulty
-returns-then-count-gt-GREATEST-COUNT c = kept (search needs) (kept (search needs) (broken (search needs) refl))
+returns-then-count-gt-MOST-ENTRIES c = kept (search needs) (kept (search needs) (broken (search needs) refl))
 
 -- the fourth, and those before it are kept
 pub returns-then-bytes-count : need.returns-then-bytes-count

@@ -13,8 +13,8 @@ returns-in-Err c =
     (refl, subst at (c .row-of-row .ensures) (broken (stamp .1) (stamp .0)))
 
 -- the length is above 96, and the stamp is lawful
-pub returns-then-row-gt-GREATEST-LENGTH : need.returns-then-row-gt-GREATEST-LENGTH
-returns-then-row-gt-GREATEST-LENGTH c =
+pub returns-then-row-gt-LONGEST-TEXT : need.returns-then-row-gt-LONGEST-TEXT
+returns-then-row-gt-LONGEST-TEXT c =
     let at : Row → Type 0 = λ w. Row-faulty w (c .args .place) RowLong in
     (refl, subst at (c .row-of-row .ensures) (kept (search needs) (broken (search needs) refl)))
 

@@ -7,8 +7,8 @@ use Rattle.imagewriter.specs.Answers.{Body-fits}
 use Rattle.imagewriter.proofs.BodiesStand.{named, own-fits, body-stands}
 use Rattle.imagewriter.proofs.writer.Bodies.body.Needs as need
 
-pub returns-then-text-gt-MOST-BODY-BYTES : need.returns-then-text-gt-MOST-BODY-BYTES
-returns-then-text-gt-MOST-BODY-BYTES c =
+pub returns-then-text-gt-LONGEST-TEXT : need.returns-then-text-gt-LONGEST-TEXT
+returns-then-text-gt-LONGEST-TEXT c =
     let w = c .args .self .now in
     let buf = c .args .buf .now in
     let text = c .args .text .now in
