@@ -15,7 +15,7 @@ use tables::Refusal;
 // The most bytes that a text may have.
 const MOST_TEXT_BYTES: usize = 96;
 
-// The length of an entry's text.
+// The length of an entry's text, which is fetched for it and let go.
 fn text_length<R: Readable>(from: &R, e: usize) -> Result<usize, Refusal>
     requires { ⌜ e < length (R·Readable .table (now from)) ⌝ }
     ensures { λ r. ⌜ r ≡ Ok (length (entry (R·Readable .table (now (from .entry))) e .text)) ⌝ }

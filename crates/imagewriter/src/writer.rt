@@ -1,4 +1,5 @@
 ghost use Prim.Native.Nat.{_+_, _*_, _≤_};
+use imageformat::ROW_BYTES;
 
 mod buffer;
 mod writing_bodies;
@@ -11,7 +12,7 @@ const MOST_ENTRIES: usize = 128;
 const MOST_BODY_BYTES: usize = 96;
 
 // The most bytes that an entry takes in a file: its row and its body.
-const MOST_ENTRY_BYTES: usize = 110;
+const MOST_ENTRY_BYTES: usize = ROW_BYTES + MOST_BODY_BYTES;
 
 // A writer that takes rows: of `count` rows the first `standing` are written, and the body of the next one
 // will begin at `place`.
