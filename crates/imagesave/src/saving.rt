@@ -13,7 +13,7 @@ use tables::LONGEST_TEXT;
 use tables::Readable;
 use tables::Refusal;
 
-// The length of an entry's text.
+// The length of an entry's text, which is fetched for it and let go.
 fn text_length<R: Readable>(from: &R, e: usize) -> Result<usize, Refusal>
     requires { ⌜ e < length (R·Readable .table (now from)) ⌝ }
     ensures { λ r. ⌜ r ≡ Ok (length (entry (R·Readable .table (now (from .entry))) e .text)) ⌝ }

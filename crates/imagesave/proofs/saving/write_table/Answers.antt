@@ -1,9 +1,8 @@
-use mathlib.Core.Path.{_≡_, ap, _∙_}
+use mathlib.Core.Path.{_≡_, _∙_}
 use Prim.Native.Nat.{_≤_}
 use native.Mathlib.Omega.{arith}
 use borrow.Author.Needs.{needs}
 use lib.ListN.{length}
-use Rattle.std.specs.declared.result.Result.the-variants.{Ok}
 use Rattle.imageformat.specs.Format.{written}
 use Rattle.imagewriter.specs.Places.{room}
 use Rattle.imagesave.specs.Saving.{Behind}
@@ -21,4 +20,4 @@ returns-in-Ok-finish g c =
     let file = c .finish .ensures .meaning t buf (c .write-bodies .ensures .stand) (c .write-bodies .ensures .all) in
     let long : c .in-Ok-finish .length ≡ length (written t) = cc (file .0) in
     let begun : room n ≤ length was → Behind t was (c .begin .last .buf) = λ wide. head-turn t n was (c .begin .last .buf) wide (c .in-Continue-rows .ensures tt .answer .2 (omega arith) wide .1) in
-    (λ roomy. (ap Ok long, whole t was buf (file .1) (c .write-bodies .ensures .behind ∙ c .write-rows .ensures .behind ∙ begun (omega arith))), search needs)
+    (λ roomy. (simp long, whole t was buf (file .1) (c .write-bodies .ensures .behind ∙ c .write-rows .ensures .behind ∙ begun (omega arith))), search needs)
