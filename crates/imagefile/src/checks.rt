@@ -18,6 +18,12 @@ use tables::MOST_ENTRIES;
 use tables::Refusal;
 use tables::Stamp;
 
+// The greatest count that a file's head may say.
+const GREATEST_COUNT: usize = MOST_ENTRIES;
+
+// The greatest length that a row may say.
+const GREATEST_LENGTH: usize = LONGEST_TEXT;
+
 // The count that a file's head says, where the head stands.
 pub(crate) fn count_of(bytes: &[u8]) -> usize
     requires { ⌜ 4 ≤ length (now bytes) ⌝ }
@@ -46,7 +52,7 @@ fn check_head(bytes: &[u8]) -> Result<usize, FileFault>
         return Err(FileFault::Whole(Refusal::Version));
     }
     let count = count_of(bytes);
-    if count > MOST_ENTRIES {
+    if count > GREATEST_COUNT {
         return Err(FileFault::Whole(Refusal::CountHigh));
     }
     if bytes.len() < HEAD_BYTES + ROW_BYTES * count {
@@ -64,7 +70,7 @@ fn check_row(bytes: &[u8], k: usize, place: usize) -> Result<usize, RowFault>
     if let Err(refusal) = Stamp::new(row.edition, row.hand) {
         return Err(RowFault { row: k, refusal });
     }
-    if row.length as usize > LONGEST_TEXT {
+    if row.length as usize > GREATEST_LENGTH {
         return Err(RowFault {
             row: k,
             refusal: Refusal::RowLong,
