@@ -1,0 +1,9 @@
+use Prim.Native.Nat.{ℕ, _<_}
+use mathlib.Core.Path.{_≡_}
+use mathlib.Core.Bool.{true, false}
+use lib.ListN.{getD}
+use Rattle.keyed.proofs.Testing.{passes}
+use Rattle.keyed.proofs.occupied.Given as given
+
+abbrev pub Inv-loop-i : given.InvT-loop-i
+Inv-loop-i g l = (j : ℕ) → j < l .i → (y : _) → y ≡ getD (l .places) j y → passes (g .T·Keyed .key y) (λ k. true) ≡ false
