@@ -1,0 +1,68 @@
+-- Sessions and their holds, and what each change makes of them.
+use mathlib.Core.Bool.{Bool, true, false, cond, not, _&&_}
+use mathlib.Core.List.{List, [], _++_}
+use Prim.Native.Nat.{ℕ}
+use lib.ListN.{length, set, drop, replicate}
+use lib.Dec.{leb, eqb}
+use Rattle.std.specs.declared.option.Option.{Option}
+use Rattle.std.specs.declared.option.Option.the-variants.{None, Some}
+use Rattle.rules.specs.Numbers.{some?, maybe}
+use Rattle.keyed.specs.Keyed.{is-key, position, distinct, all-under, any-taken, every}
+use Rattle.sessions.specs.declared.hold.Hold.{Hold}
+use Rattle.sessions.specs.declared.session.Side.{Side}
+use Rattle.sessions.specs.declared.session.Side.the-variants.{Neither, Before}
+use Rattle.sessions.specs.declared.session.Session.{Session}
+
+-- ── keys ──
+
+-- the entry that a hold is of
+abbrev pub hold-key : Hold → Option ℕ
+hold-key h = cond (h .taken) (Some (h .entry)) None
+
+-- the number of a live session
+abbrev pub session-key : Session → Option ℕ
+session-key x = cond (x .live) (Some (x .number)) None
+
+-- ── what a session table keeps of each session ──
+
+-- the bytes of a hold are 96, and its text is within them
+abbrev pub fits : Hold → Bool
+fits h = leb (h .len) 96 && eqb (length (h .text)) 96
+
+-- eight holds, of distinct entries below n
+abbrev pub sound-session : ℕ → Session → Bool
+sound-session n x =
+    eqb (length (x .holds)) 8
+    && (distinct hold-key (x .holds) && (all-under hold-key n (x .holds) && every fits (x .holds)))
+
+-- ── holds ──
+
+-- what stands past the end of an array of holds
+abbrev pub no-hold : Hold
+no-hold = record { taken = false; entry = 0; mode = 0; wrote = false; text = []; len = 0 }
+
+-- a hold of nothing
+abbrev pub blank-hold : Hold
+blank-hold = record { taken = false; entry = 0; mode = 0; wrote = false; text = replicate 96 0; len = 0 }
+
+-- a hold is of an entry, and keeps a text
+abbrev pub is-written : Hold → Bool
+is-written h = h .taken && h .wrote
+
+-- ── sessions ──
+
+-- what stands past the end of an array of sessions
+abbrev pub no-session : Session
+no-session = record { live = false; number = 0; side = Neither; holds = [] }
+
+-- a place without a session
+abbrev pub free-session : Session
+free-session = record { live = false; number = 0; side = Neither; holds = replicate 8 blank-hold }
+
+-- a session that has just begun
+abbrev pub begun-session : ℕ → Session
+begun-session k = record { live = true; number = k; side = Neither; holds = replicate 8 blank-hold }
+
+-- a session ended
+abbrev pub ended-session : Session → Session
+ended-session x = record { live = false; number = x .number; side = x .side; holds = x .holds }
