@@ -34,9 +34,11 @@ all-at (t ∷ ts) e (suc i) = all-at ts (and-parts t (all ts) e .1) i
 abbrev implies : Bool → Bool → Bool
 implies x y = not x || y
 
+-- where it does, the second is true with the first
 implied : (x y : Bool) → implies x y ≡ true → x ≡ true → y ≡ true
 implied x y e h = grind arith
 
+-- two answers that are tested as equal are equal
 equal : (x y : Bool) → Bool·beq x y ≡ true → x ≡ y
 equal x y e = grind arith
 
