@@ -3,5 +3,8 @@ pub mod Below
 pub mod Entries
 pub mod Commits
 pub mod Texts
-pub mod Unused
+pub mod OtherSessions
 pub mod LaidEntries
+pub mod Invariant
+pub mod Holders
+pub mod SessionEvents
