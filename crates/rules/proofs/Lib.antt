@@ -8,3 +8,7 @@ pub mod LaidEntries
 pub mod Invariant
 pub mod Holders
 pub mod SessionEvents
+pub mod Claims
+pub mod Begins
+pub mod OpenClose
+pub mod Copies
