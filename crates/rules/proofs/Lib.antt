@@ -12,3 +12,5 @@ pub mod Claims
 pub mod Begins
 pub mod OpenClose
 pub mod Copies
+pub mod OneCommit
+pub mod CommitKept

@@ -83,41 +83,40 @@ module _ (K : Kind) (first n : ℕ) (o : Office) (l : Log) (i : Inv K first n o 
         };
       }
 
-  -- what a close or a drop leaves, whatever was told of the round
-  module _ (t : Table) where
-    end-status : (s : ℕ) → Status K n (entry (o .live)) (o .next-session) s (events l s) (sideless (o .sessions s))
-    end-status s = status-sideless K n (entry (o .live)) (o .next-session) s (events l s) (o .sessions s) (i .status s)
+  -- what a close or a drop leaves, whichever it is
+  end-status : (s : ℕ) → Status K n (entry (o .live)) (o .next-session) s (events l s) (sideless (o .sessions s))
+  end-status s = status-sideless K n (entry (o .live)) (o .next-session) s (events l s) (o .sessions s) (i .status s)
 
-    end-apart : Apart K (after-round o)
-    end-apart = apart-fewer K o (after-round o) (λ s e m h. sym (sideless-mode e (o .sessions s)) ∙ h) (i .apart)
+  end-apart : Apart K (after-round o)
+  end-apart = apart-fewer K o (after-round o) (λ s e m h. sym (sideless-mode e (o .sessions s)) ∙ h) (i .apart)
 
-    end-gone : (s : ℕ) → committed l s ≡ true → (sideless (o .sessions s) ≡ None) × (s < o .next-session)
-    end-gone s h = (ap sideless (i .gone s h .0), i .gone s h .1)
+  end-gone : (s : ℕ) → committed l s ≡ true → (sideless (o .sessions s) ≡ None) × (s < o .next-session)
+  end-gone s h = (ap sideless (i .gone s h .0), i .gone s h .1)
 
-    pub inv-close : Inv K first n (after-round o) (record { event = closes; live = t } ∷ l)
-    inv-close =
-        record {
-          count = i .count;
-          status = end-status;
-          numbered = i .numbered;
-          apart = end-apart;
-          hand-is = i .hand-is;
-          stamps = i .stamps;
-          gone = end-gone;
-          agree = i .agree;
-          in-round = λ r. absurd (false≢true r);
-        }
+  pub inv-close : (t : Table) → Inv K first n (after-round o) (record { event = closes; live = t } ∷ l)
+  inv-close t =
+      record {
+        count = i .count;
+        status = end-status;
+        numbered = i .numbered;
+        apart = end-apart;
+        hand-is = i .hand-is;
+        stamps = i .stamps;
+        gone = end-gone;
+        agree = i .agree;
+        in-round = λ r. absurd (false≢true r);
+      }
 
-    pub inv-drop : Inv K first n (after-round o) (record { event = drops; live = t } ∷ l)
-    inv-drop =
-        record {
-          count = i .count;
-          status = end-status;
-          numbered = i .numbered;
-          apart = end-apart;
-          hand-is = i .hand-is;
-          stamps = i .stamps;
-          gone = end-gone;
-          agree = i .agree;
-          in-round = λ r. absurd (false≢true r);
-        }
+  pub inv-drop : (t : Table) → Inv K first n (after-round o) (record { event = drops; live = t } ∷ l)
+  inv-drop t =
+      record {
+        count = i .count;
+        status = end-status;
+        numbered = i .numbered;
+        apart = end-apart;
+        hand-is = i .hand-is;
+        stamps = i .stamps;
+        gone = end-gone;
+        agree = i .agree;
+        in-round = λ r. absurd (false≢true r);
+      }
