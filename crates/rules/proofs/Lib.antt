@@ -14,3 +14,7 @@ pub mod OpenClose
 pub mod Copies
 pub mod OneCommit
 pub mod CommitKept
+pub mod Declined
+pub mod EachCall
+pub mod OneSet
+pub mod CarriedOut
