@@ -18,3 +18,7 @@ pub mod Declined
 pub mod EachCall
 pub mod OneSet
 pub mod CarriedOut
+pub mod RoundLaws
+pub mod Closes
+pub mod EveryList
+pub mod EqualOffices
