@@ -126,10 +126,10 @@ over o image c =
     }
 
 -- one turn of a work of at most suc k copies, where next names y
-abbrev turn : ℕ → Office → Option ℕ → ℕ × Office
+abbrev pub turn : ℕ → Office → Option ℕ → ℕ × Office
 turn k o y = maybe y (0, o) (λ e. (suc (after-work k (after-copy o e) .0), after-work k (after-copy o e) .1))
 
-next-is : (n : ℕ) (h c : ℕ → Bool) (e : ℕ) → next-entry n h c ≡ Some e → (e < n) × (c e ≡ false) × (h e ≡ false)
+pub next-is : (n : ℕ) (h c : ℕ → Bool) (e : ℕ) → next-entry n h c ≡ Some e → (e < n) × (c e ≡ false) × (h e ≡ false)
 next-is n h c e q =
     let a = lowest-some n (λ e. not (c e) && not (h e)) e q in
     let b = and-true (not (c e)) (not (h e)) (a .1) in

@@ -22,3 +22,5 @@ pub mod RoundLaws
 pub mod Closes
 pub mod EveryList
 pub mod EqualOffices
+pub mod Bounds
+pub mod StaysLawful
