@@ -106,8 +106,7 @@ module _ (K : Kind) (first n : ℕ) (o : Office) (l : Log) (t : Table) (k : ℕ)
       let z : Text = or-else (x .text e) (entry (o .live) e .text) in
       let w = live-status K first n o l i k x q in
       subst (λ f. Inv K first n (with-sessions o f) (record { event = by k (reads e z); live = t } ∷ l)) (changed-id (o .sessions) k (Some x) q)
-      (inv-by K first n o l t k x (reads e z) (Some x) i q refl
-      (
+      (inv-by K first n o l t k x (reads e z) (Some x) i q refl (
         w .0,
         record {
           holds-is = w .1 .holds-is;
@@ -128,8 +127,7 @@ module _ (K : Kind) (first n : ℕ) (o : Office) (l : Log) (t : Table) (k : ℕ)
   inv-write e z m h wr =
       let w = live-status K first n o l i k x q in
       let y : Session = record { side = x .side; mode = x .mode; text = changed (x .text) e (Some z) } in
-      inv-by K first n o l t k x (writes e z) (Some y) i q refl
-      (
+      inv-by K first n o l t k x (writes e z) (Some y) i q refl (
         w .0,
         record {
           holds-is = w .1 .holds-is;
