@@ -1,0 +1,11 @@
+pub mod Numbers
+pub mod Office
+pub mod Rules
+pub mod History
+pub mod Holding
+pub mod Copying
+pub mod Sides
+pub mod Writing
+pub mod Laying
+pub mod Round
+pub mod Examples
