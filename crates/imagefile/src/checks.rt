@@ -24,16 +24,8 @@ const GREATEST_COUNT: usize = MOST_ENTRIES;
 // The greatest length that a row may say.
 const GREATEST_LENGTH: usize = LONGEST_TEXT;
 
-// The count that a file's head says, where the head stands.
-pub(crate) fn count_of(bytes: &[u8]) -> usize
-    requires { ⌜ 4 ≤ length (now bytes) ⌝ }
-    ensures { λ r. ⌜ r ≡ head-count (now (bytes .entry)) ⌝ }
-{
-    usize::from(u16_at(bytes, 2).unwrap())
-}
-
 // Row `k` of a file, where the row stands.
-pub(crate) fn row_of(bytes: &[u8], k: usize) -> Row
+fn row_of(bytes: &[u8], k: usize) -> Row
     requires { ⌜ 18 + 14 * k ≤ length (now bytes) ⌝ }
     ensures { λ r. ⌜ r ≡ file-row (now (bytes .entry)) k ⌝ }
 {
@@ -51,7 +43,7 @@ fn check_head(bytes: &[u8]) -> Result<usize, FileFault>
     if version != VERSION {
         return Err(FileFault::Whole(Refusal::Version));
     }
-    let count = count_of(bytes);
+    let count = usize::from(u16_at(bytes, 2).unwrap());
     if count > GREATEST_COUNT {
         return Err(FileFault::Whole(Refusal::CountHigh));
     }

@@ -15,7 +15,9 @@ pub struct RowFault {
 // What is wrong in a file: something of the file as a whole, or of a row.
 #[derive(Clone, Copy, PartialEq, Eq, Debug)]
 pub enum FileFault {
+    // a fault of the file as a whole: 20 to 23, or 27
     Whole(Refusal),
+    // a fault of a row: 24 to 26
     Row(RowFault),
 }
 

@@ -10,20 +10,22 @@ ghost use Rattle.imagefile.specs.Shown.{head-count, file-row, file-body, shown
 ghost use Rattle.imagefile.specs.Rules.{Head-rule, Rows-rule, due};
 ghost use Rattle.imagefile.specs.Laws.{shown-lawful};
 use super::checks::check;
-use super::checks::count_of;
-use super::checks::row_of;
+use imageformat::HEAD_BYTES;
+use imageformat::ROW_BYTES;
 use imageformat::Row;
+use imageformat::u16_at;
 use tables::Readable;
 use tables::Refusal;
 use tables::fill_front;
 
-// The file of the empty table.
+// The file of the empty table: version 1 and count 0.
 static EMPTY: [u8; 4] = [0, 1, 0, 0];
 
 // A reader of a file that keeps all rules. It holds the file's bytes as they were lent, and nothing else.
 #[derive(Clone, Copy)]
 pub struct Reader<'a> {
     bytes: &'a [u8],
+    // the rules of the head, of the rows, and of the file's end
     ghost head: { Head-rule (seen bytes) },
     ghost rows: { Rows-rule (seen bytes) (head-count (seen bytes)) },
     ghost end: { due (seen bytes) (head-count (seen bytes)) ≡ length (seen bytes) },
@@ -49,7 +51,7 @@ impl<'a> Reader<'a> {
         if e >= self.count() {
             return None;
         }
-        Some(row_of(self.bytes, e))
+        Row::read(self.bytes, HEAD_BYTES + ROW_BYTES * e)
     }
 
     // The text of an entry, as the part of the file in which it stands.
@@ -68,7 +70,7 @@ pub impl<'a> Readable for Reader<'a> as ReaderReadable {
     ghost lawful = { λ s. shown-lawful (seen (s .bytes)) (s .head, s .rows, s .end) };
 
     fn count(&self) -> usize {
-        count_of(self.bytes)
+        usize::from(u16_at(self.bytes, 2).unwrap())
     }
 
     fn stamp(&self, e: usize) -> Result<(u32, u32), Refusal> {

@@ -6,7 +6,7 @@ use native.Mathlib.Omega.{arith}
 use lib.ListN.{length, take, drop}
 use Rattle.std.specs.declared.result.Result.{Result}
 use Rattle.std.specs.declared.result.Result.the-variants.{Ok}
-use Rattle.std.proofs.shelf.Lists.{length-append, length-take-le, take-more, take-at, take-append-drop}
+use Rattle.std.proofs.shelf.Lists.{length-append, length-take-le, take-more, take-append-drop}
 use Rattle.tables.specs.declared.refusal.Refusal.{Refusal}
 use Rattle.tables.specs.Tables.{Table, Lawful, blank, entry, of}
 use Rattle.imageformat.specs.Format.{head, row, bodies, written}
@@ -70,8 +70,3 @@ whole t was buf front behind =
     sym (take-append-drop (length (written t)) buf)
     ∙ ap (λ z. z ++ drop (length (written t)) buf) front
     ∙ ap (λ z. written t ++ z) behind
-
--- a text whose bytes are all copied
-pub text-copied : (s rest fetched out : List ℕ) (i : ℕ) → i ≡ length s → fetched ≡ s ++ rest → take i out ≡ take i fetched → take (length s) out ≡ s
-text-copied s rest fetched out i end front same =
-    ap (λ n. take n out) (sym end) ∙ same ∙ ap (take i) front ∙ take-at s rest i (sym end)

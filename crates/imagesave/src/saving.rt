@@ -7,6 +7,7 @@ ghost use Rattle.tables.specs.Tables.{entry};
 ghost use Rattle.imagewriter.specs.Places.{room};
 ghost use Rattle.imagewriter.specs.Standing.{Rows-stand, Bodies-stand};
 ghost use Rattle.imagesave.specs.Saving.{Write-answer, Behind};
+use fetch::fetch_text;
 use imagewriter::Bodies;
 use imagewriter::Rows;
 use tables::LONGEST_TEXT;
@@ -20,21 +21,6 @@ fn text_length<R: Readable>(from: &R, e: usize) -> Result<usize, Refusal>
 {
     let mut text = [0u8; LONGEST_TEXT];
     from.text(e, &mut text)
-}
-
-// Copies the text of an entry, byte by byte, to the front of a buffer, and answers its length.
-fn copy_text<R: Readable>(from: &R, e: usize, out: &mut [u8]) -> Result<usize, Refusal>
-    requires entry_within { ⌜ e < length (R·Readable .table (now from)) ⌝ }
-    requires wide { ⌜ 96 ≤ length (now out) ⌝ }
-    ensures answer { λ r. ⌜ r ≡ Ok (length (entry (R·Readable .table (now (from .entry))) e .text)) ⌝ }
-    ensures copied { λ _. ⌜ take (length (entry (R·Readable .table (now (from .entry))) e .text)) (now (out .exit)) ≡ entry (R·Readable .table (now (from .entry))) e .text ⌝ }
-{
-    let mut fetched = [0u8; LONGEST_TEXT];
-    let length = from.text(e, &mut fetched)?;
-    for i in 0..length {
-        out[i] = fetched[i];
-    }
-    Ok(length)
 }
 
 // Writes the row of an entry, the rows before it being written.
@@ -91,7 +77,7 @@ fn write_body<R: Readable>(
     ensures behind { λ _. ⌜ Behind (R·Readable .table (now (from .entry))) (now (buf .entry)) (now (buf .exit)) ⌝ }
 {
     let mut text = [0u8; LONGEST_TEXT];
-    let length = copy_text(from, e, &mut text)?;
+    let length = fetch_text(from, e, &mut text)?;
     bodies.body(buf, &text[0..length])
 }
 

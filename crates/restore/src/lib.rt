@@ -1,17 +1,17 @@
 // Restoring a store from a readable table.
 //
 // Job: puts every entry of a readable table into a store.
-// May use: `tables`.
+// May use: `tables`, `fetch`.
 // Main promise: where the two counts are equal the store's table is then the source's; where they differ the
 // call is refused by 15 and the store is as it was. There is no other refusal.
 
 ghost use mathlib.Core.Path.{_≡_};
-ghost use mathlib.Core.List.{_++_};
-ghost use Prim.Native.Nat.{_<_, _≤_};
-ghost use lib.ListN.{length, set, take, drop};
+ghost use Prim.Native.Nat.{_<_};
+ghost use lib.ListN.{length, set};
 ghost use Rattle.std.specs.declared.result.Result.the-variants.{Ok};
 ghost use Rattle.tables.specs.Tables.{entry};
 ghost use Rattle.restore.specs.Restored.{Restored};
+use fetch::fetch_text;
 use tables::LONGEST_TEXT;
 use tables::Readable;
 use tables::Refusal;
@@ -40,20 +40,7 @@ fn restore_entry<R: Readable, S: Store>(from: &R, to: &mut S, e: usize) -> Resul
 {
     let (edition, hand) = from.stamp(e)?;
     let stamp = Stamp::new(edition, hand)?;
-    let mut fetched = [0; LONGEST_TEXT];
-    let len = from.text(e, &mut fetched)?;
     let mut text = [0; LONGEST_TEXT];
-    copy_bytes(&mut text, &fetched, len);
+    let len = fetch_text(from, e, &mut text)?;
     to.put(e, &text[0..len], stamp)
-}
-
-// Copies the first `len` bytes one by one, and keeps the rest of `out`.
-fn copy_bytes(out: &mut [u8], bytes: &[u8], len: usize)
-    requires in_bytes { ⌜ len ≤ length (now bytes) ⌝ }
-    requires in_out { ⌜ len ≤ length (now out) ⌝ }
-    ensures { λ _. ⌜ now (out .exit) ≡ take len (now (bytes .entry)) ++ drop len (now (out .entry)) ⌝ }
-{
-    for i in 0..len {
-        out[i] = bytes[i];
-    }
 }

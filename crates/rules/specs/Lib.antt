@@ -8,3 +8,4 @@ pub mod Sides
 pub mod Writing
 pub mod Laying
 pub mod Round
+pub mod Examples

@@ -56,9 +56,11 @@ All-serial = Each-round (λ first l live image. Serial-law first l live)
 abbrev pub All-opened : Type 0
 All-opened = Each-round (λ first l live image. T (round-open l))
 
--- the live table stays lawful
+-- the live table stays lawful, and so does the image, if it was
 abbrev pub Stays-lawful : Type 0
-Stays-lawful = (K : Kind) (live image : Table) → Lawful live → (h : History) (o : Office) → Run K live image h o → Lawful (o .live)
+Stays-lawful =
+    (K : Kind) (live image : Table) → Lawful live → (h : History) (o : Office) → Run K live image h o
+    → Lawful (o .live) × (Lawful image → Lawful (o .image))
 
 -- every list of calls, newest first, has a run
 abbrev pub Every-list-runs : Type 0

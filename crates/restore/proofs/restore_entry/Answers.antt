@@ -1,6 +1,6 @@
 use borrow.Author.Needs.{needs}
 use Rattle.tables.specs.Tables.{entry}
-use Rattle.restore.proofs.Steps.{text-copied, entry-put}
+use Rattle.restore.proofs.Steps.{text-fetched, entry-put}
 use Rattle.restore.proofs.restore_entry.Needs as need
 
 -- the source's stamp is lawful, so it is not refused
@@ -27,7 +27,7 @@ returns g c =
     let d = c .in-Continue-len .ensures tt .0 (c .pre .in-source) .0 (l .0) in
     let x = entry (g .R·Readable .table (c .args .from .now)) (c .args .e) in
     entry-put (g .S·Readable .table (c .args .to .now)) _ (c .args .e) x _ _ _ _ (c .pre .in-store) l
-    (text-copied (x .text) _ _ _ _ (c .in-Continue-len .len) (search needs) (d .1) (c .copy-bytes .ensures))
+    (text-fetched (x .text) _ _ (c .in-Continue-len .len) (search needs) (d .1))
     (search needs)
     (search needs)
     (c .put .ensures)

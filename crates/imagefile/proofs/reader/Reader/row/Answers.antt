@@ -1,15 +1,16 @@
-use mathlib.Core.Path.{sym, ap, _∙_}
+use borrow.Author.Needs.{needs}
 use Prim.Native.Nat.{_<_}
 use native.Mathlib.Omega.{arith}
-use Rattle.tables.specs.Tables.{Entry}
-use Rattle.imageformat.specs.declared.row.Row.{Row}
 use Rattle.imagefile.specs.Shown.{head-count}
 use Rattle.imagefile.specs.Laws.{shown-length, shown-entry}
 use Rattle.imagefile.proofs.reader.Reader.row.Needs as need
 
--- a row below the count stands
-pub row-of-requires : need.row-of-requires
-row-of-requires c κs = let n = shown-length (c .args .self .now .bytes .now) in omega arith
+-- a row below the count begins in the file
+pub mul-e : need.mul-e
+mul-e c = let n = shown-length (c .args .self .now .bytes .now) in search needs
+
+pub add-e : need.add-e
+add-e c = let n = shown-length (c .args .self .now .bytes .now) in search needs
 
 -- its stamp is the entry's
 pub returns : need.returns
@@ -18,6 +19,5 @@ returns c =
     let e = c .args .e in
     let n = shown-length bs in
     let i : e < head-count bs = omega arith in
-    let w = c .row-of .ensures in
-    let x = sym (shown-entry bs e i) in
-    (omega arith, w, ap (λ (w : Row). w .edition) w ∙ ap (λ (y : Entry). y .edition) x, ap (λ (w : Row). w .hand) w ∙ ap (λ (y : Entry). y .hand) x)
+    let x = shown-entry bs e i in
+    search needs

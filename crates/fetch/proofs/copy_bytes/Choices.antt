@@ -1,7 +1,7 @@
 use mathlib.Core.Path.{_≡_}
 use mathlib.Core.List.{_++_}
 use lib.ListN.{take, drop}
-use Rattle.restore.proofs.copy_bytes.Given as given
+use Rattle.fetch.proofs.copy_bytes.Given as given
 
 -- the bytes before `i` are copied, and the others are as they were
 abbrev pub Inv-loop-i : given.InvT-loop-i
