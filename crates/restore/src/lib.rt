@@ -1,6 +1,6 @@
 // Restoring a store from a readable table.
 //
-// Job: puts every entry of a readable table into a store.
+// Job: puts an entry, or every entry, of a readable table into a store.
 // May use: `tables`, `fetch`.
 // Main promise: where the two counts are equal the store's table is then the source's; where they differ the
 // call is refused by 15 and the store is as it was. There is no other refusal.
@@ -10,7 +10,7 @@ ghost use Prim.Native.Nat.{_<_};
 ghost use lib.ListN.{length, set};
 ghost use Rattle.std.specs.declared.result.Result.the-variants.{Ok};
 ghost use Rattle.tables.specs.Tables.{entry};
-ghost use Rattle.restore.specs.Restored.{Restored};
+ghost use Rattle.restore.specs.Restored.{Entry-copied, Restored};
 use fetch::fetch_text;
 use tables::LONGEST_TEXT;
 use tables::Readable;
@@ -27,16 +27,14 @@ pub fn restore<R: Readable, S: Store>(from: &R, to: &mut S) -> Result<(), Refusa
         return Err(Refusal::CountsDiffer);
     }
     for e in 0..count {
-        restore_entry(from, to, e)?;
+        copy_entry(from, to, e)?;
     }
     Ok(())
 }
 
-// Puts one entry, which both tables have.
-fn restore_entry<R: Readable, S: Store>(from: &R, to: &mut S, e: usize) -> Result<(), Refusal>
-    requires in_source { ⌜ e < length (R·Readable .table (now from)) ⌝ }
-    requires in_store { ⌜ e < length (S·Readable .table (now to)) ⌝ }
-    ensures { λ r. ⌜ (r ≡ Ok tt) × (S·Readable .table (now (to .exit)) ≡ set (S·Readable .table (now (to .entry))) e (entry (R·Readable .table (now (from .entry))) e)) ⌝ }
+// Puts entry `e` of `from` into `to`; refusal 2 where one of the two has no such entry.
+pub fn copy_entry<R: Readable, S: Store>(from: &R, to: &mut S, e: usize) -> Result<(), Refusal>
+    ensures { λ r. ⌜ Entry-copied (R·Readable .table (now (from .entry))) (S·Readable .table (now (to .entry))) e r (S·Readable .table (now (to .exit))) ⌝ }
 {
     let (edition, hand) = from.stamp(e)?;
     let stamp = Stamp::new(edition, hand)?;
