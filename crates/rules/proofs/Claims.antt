@@ -8,9 +8,10 @@ use native.Mathlib.Omega.{arith}
 use lib.Dec.{eqb}
 use Rattle.std.specs.declared.option.Option.{Option}
 use Rattle.std.specs.declared.option.Option.the-variants.{None, Some}
+use Rattle.std.specs.Options.{isSome, valueOr}
 use Rattle.tables.specs.Tables.{Table, entry}
 use Rattle.modes.specs.Kind.{Kind, Laws}
-use Rattle.rules.specs.Numbers.{some?, or-else, changed}
+use Rattle.rules.specs.Numbers.{changed}
 use Rattle.rules.specs.Office.{Side, neither, before, after, is-before, is-after, Session, new-session, Office, mode-at}
 use Rattle.rules.specs.Rules.{holds-mode, wanted, conflicts, with-session, first-side}
 use Rattle.rules.specs.History.{claims, by, Log, events}
@@ -92,7 +93,7 @@ module _ (K : Kind) (L : Laws K) (first n : ℕ) (o : Office) (l : Log) (t : Tab
   known-claimed σ =
       record {
         holds-is = λ j. elim (same? j e) [ inl c ↦ rw (c .0) | inr c ↦ rw (c .0) (known .holds-is j) ];
-        holds-any-is = sym (any-yes n (λ j. some? (changed (x .mode) e (Some (wanted K m (x .mode e))) j)) e lt (ap some? (changed-same (x .mode) e (Some (wanted K m (x .mode e))))));
+        holds-any-is = sym (any-yes n (λ j. isSome (changed (x .mode) e (Some (wanted K m (x .mode e))) j)) e lt (ap isSome (changed-same (x .mode) e (Some (wanted K m (x .mode e))))));
         inside = λ j b h. elim (same? j e) [
           | inl c ↦
               let h′ : Some (wanted K m (x .mode e)) ≡ Some b = rw (c .0) at h in
@@ -115,7 +116,7 @@ module _ (K : Kind) (L : Laws K) (first n : ℕ) (o : Office) (l : Log) (t : Tab
 
   new-hold : (σ : Side) (s j b : ℕ) → mode-at (with-session o k (Some (claimed σ))) s j ≡ Some b → New-hold s j b
   new-hold σ s j b =
-      at-changed (λ s y. or-else y new-session .mode j ≡ Some b → New-hold s j b) (o .sessions) k (Some (claimed σ))
+      at-changed (λ s y. valueOr y new-session .mode j ≡ Some b → New-hold s j b) (o .sessions) k (Some (claimed σ))
       (λ h. elim (same? j e) [
         | inl c ↦
             let h′ : Some (wanted K m (x .mode e)) ≡ Some b = rw (c .0) at h in

@@ -8,29 +8,7 @@ use Rattle.tables.specs.Tables.{Table}
 use Rattle.tables.specs.Refusals.{number-of}
 use Rattle.tables.specs.declared.refusal.Refusal.the-variants.{Ended}
 use Rattle.modes.specs.Kind.{Kind}
-use Rattle.rules.specs.Office.{
-  Text,
-  Office,
-  new-office,
-  Call,
-  begin,
-  claim,
-  read,
-  write,
-  commit,
-  leave,
-  open-round,
-  copy,
-  work,
-  close-round,
-  drop-round,
-  Answer,
-  refused,
-  done,
-  number,
-  found,
-  counts,
-}
+use Rattle.rules.specs.Office.{Text, Office, new-office, Call, begin, claim, read, write, commit, leave, open-round, copy, work, close-round, drop-round, Answer, refused, done, number, found, counts}
 use Rattle.rules.specs.Rules.{Step}
 
 -- ── moments and runs ──

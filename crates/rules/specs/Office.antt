@@ -1,14 +1,15 @@
 -- The office: its two tables, its sessions and its round; the calls and their answers.
-use mathlib.Core.Bool.{Bool, true, false, cond, not, _&&_}
+use mathlib.Core.Bool.{Bool, true, false, not, _&&_}
 use mathlib.Core.List.{List, [], _∷_}
 use Prim.Native.Nat.{ℕ, suc, max}
 use lib.ListN.{length}
 use lib.Dec.{eqb}
 use Rattle.std.specs.declared.option.Option.{Option}
-use Rattle.std.specs.declared.option.Option.the-variants.{None, Some}
+use Rattle.std.specs.declared.option.Option.the-variants.{None}
+use Rattle.std.specs.Options.{isSome, valueOr}
 use Rattle.tables.specs.Tables.{Table}
 use Rattle.tables.specs.declared.refusal.Refusal.{Refusal}
-use Rattle.rules.specs.Numbers.{some?, or-else, any-below, count-below}
+use Rattle.rules.specs.Numbers.{any-below, count-below}
 
 -- the bytes of a text
 abbrev pub Text : Type 0
@@ -81,7 +82,7 @@ entries o = length (o .live)
 
 -- the session of a number; where none is live, one that holds nothing
 abbrev pub session : Office → ℕ → Session
-session o s = or-else (o .sessions s) new-session
+session o s = valueOr (o .sessions s) new-session
 
 -- the mode in which session s holds entry e, if it does
 abbrev pub mode-at : Office → ℕ → ℕ → Option ℕ
@@ -89,15 +90,15 @@ mode-at o s e = session o s .mode e
 
 -- some session holds entry e
 abbrev pub is-held : Office → ℕ → Bool
-is-held o e = any-below (o .next-session) (λ s. some? (mode-at o s e))
+is-held o e = any-below (o .next-session) (λ s. isSome (mode-at o s e))
 
 -- how many entries other than e session s holds
 abbrev pub others-held : Office → ℕ → ℕ → ℕ
-others-held o s e = count-below (entries o) (λ j. not (eqb j e) && some? (mode-at o s j))
+others-held o s e = count-below (entries o) (λ j. not (eqb j e) && isSome (mode-at o s j))
 
 -- how many sessions are live
 abbrev pub live-count : Office → ℕ
-live-count o = count-below (o .next-session) (λ s. some? (o .sessions s))
+live-count o = count-below (o .next-session) (λ s. isSome (o .sessions s))
 
 -- how many entries are uncopied
 abbrev pub uncopied : Office → ℕ

@@ -1,14 +1,14 @@
 -- The laws of a round, of every run.
 use mathlib.Core.Path.{_≡_}
-use mathlib.Core.Bool.{Bool}
 use mathlib.Core.Logic.{_↔_}
+use mathlib.Core.Bool.{Bool}
 use mathlib.Core.List.{List, [], _∷_, map}
 use Prim.Native.Nat.{ℕ, suc}
 use lib.Dec.{T}
 use Rattle.tables.specs.Tables.{Table, Lawful}
 use Rattle.modes.specs.Kind.{Kind, Laws}
-use Rattle.rules.specs.Office.{Office, Call, greatest-hand}
-use Rattle.rules.specs.History.{History, Run, Log, log, tells, closes, events}
+use Rattle.rules.specs.Office.{Office, greatest-hand, Call}
+use Rattle.rules.specs.History.{History, Run, closes, tells, Log, log, events}
 use Rattle.rules.specs.Sides.{Before, After}
 use Rattle.rules.specs.Writing.{wrote, committed, opening, round-open}
 use Rattle.rules.specs.Laying.{laid, Carried-right}
