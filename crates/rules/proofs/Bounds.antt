@@ -13,7 +13,21 @@ use Rattle.std.specs.Options.{isSome, valueOr, mapped}
 use Rattle.tables.specs.Tables.{Entry, blank, Table, entry, Lawful-entry, Lawful}
 use Rattle.rules.specs.Numbers.{changed, one-if, count-below}
 use Rattle.rules.specs.Office.{Text, Session, new-session, Office, entries, session, is-held, live-count}
-use Rattle.rules.specs.Rules.{next-of, with-session, after-begin, after-leave, committed-entry, has-text, after-commit, opened-session, after-open, sideless, after-round, after-copy, after-work}
+use Rattle.rules.specs.Rules.{
+  next-of,
+  with-session,
+  after-begin,
+  after-leave,
+  committed-entry,
+  has-text,
+  after-commit,
+  opened-session,
+  after-open,
+  sideless,
+  after-round,
+  after-copy,
+  after-work,
+}
 use Rattle.rules.proofs.Tests.{to-T, bool?, same?, changed-same, changed-other, at-changed, some-none, same-value}
 use Rattle.rules.proofs.Below.{count-same, count-less}
 use Rattle.rules.proofs.Entries.{length-each, entry-each}

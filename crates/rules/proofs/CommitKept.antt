@@ -29,7 +29,16 @@ use Rattle.rules.proofs.LaidEntries.{laid-at, laid-none}
 use Rattle.rules.proofs.Invariant.{Known, Status, Allowed, Sided, Tables, Round, Inv}
 use Rattle.rules.proofs.Holders.{session-mode, changed-holds, apart-fewer, live-status, live-sided}
 use Rattle.rules.proofs.SessionEvents.{agree-by}
-use Rattle.rules.proofs.OneCommit.{allowed-before, allowed-after, live-commit, image-commit, hand-commit, committed-is, stamp-commit, hands-commit}
+use Rattle.rules.proofs.OneCommit.{
+  allowed-before,
+  allowed-after,
+  live-commit,
+  image-commit,
+  hand-commit,
+  committed-is,
+  stamp-commit,
+  hands-commit,
+}
 
 -- the office after a commit of session k, which is x
 abbrev after-commit-of : Office → ℕ → Session → Office

@@ -9,9 +9,49 @@ use Rattle.std.specs.declared.result.Result.{Result}
 use Rattle.std.specs.declared.result.Result.the-variants.{Ok, Err}
 use Rattle.tables.specs.Tables.{of, blank, Table}
 use Rattle.tables.specs.declared.refusal.Refusal.{Refusal}
-use Rattle.tables.specs.declared.refusal.Refusal.the-variants.{NoSession, NoEntry, NoMode, HoldsFull, Conflict, Paused, Ended, NotReading, ShortBuffer, NotWriting, LongText, SessionsFull, RoundOpen, CountsDiffer, NoRound, Copied, Held, Uncopied}
+use Rattle.tables.specs.declared.refusal.Refusal.the-variants.{
+  NoSession,
+  NoEntry,
+  NoMode,
+  HoldsFull,
+  Conflict,
+  Paused,
+  Ended,
+  NotReading,
+  ShortBuffer,
+  NotWriting,
+  LongText,
+  SessionsFull,
+  RoundOpen,
+  CountsDiffer,
+  NoRound,
+  Copied,
+  Held,
+  Uncopied,
+}
 use Rattle.modes.specs.Kind.{Kind, plain, draft}
-use Rattle.rules.specs.Office.{Office, new-office, Call, begin, claim, read, write, commit, leave, open-round, copy, work, close-round, drop-round, Answer, refused, done, number, found, counts}
+use Rattle.rules.specs.Office.{
+  Office,
+  new-office,
+  Call,
+  begin,
+  claim,
+  read,
+  write,
+  commit,
+  leave,
+  open-round,
+  copy,
+  work,
+  close-round,
+  drop-round,
+  Answer,
+  refused,
+  done,
+  number,
+  found,
+  counts,
+}
 use Rattle.rules.specs.Rules.{next-answer, step}
 
 -- calls, oldest first, on a new office over two tables: the answers, and then the answer to next and the image

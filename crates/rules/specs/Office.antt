@@ -106,24 +106,34 @@ uncopied o = count-below (entries o) (λ e. not (o .copied e))
 
 -- ── calls and answers ──
 
--- session, entry, mode: claim s e m; session, entry, length of the buffer: read s e room; copy e; work k
+-- the calls, with numbers of sessions s, of entries e and of modes m
 pub data Call : Type 0 where
   begin : Call
+  -- claim s e m
   claim : ℕ → ℕ → ℕ → Call
+  -- read s e, with the length of the buffer
   read : ℕ → ℕ → ℕ → Call
+  -- write s e, with the text
   write : ℕ → ℕ → Text → Call
+  -- commit s
   commit : ℕ → Call
+  -- leave s
   leave : ℕ → Call
   open-round : Call
+  -- copy e
   copy : ℕ → Call
+  -- work, with the most copies it may make
   work : ℕ → Call
   close-round : Call
   drop-round : Call
 
--- a refusal; done; the number of a session begun; the text of a read; the copies of a work, and the entries left uncopied
+-- the answers
 pub data Answer : Type 0 where
   refused : Refusal → Answer
   done : Answer
+  -- the number of the session begun
   number : ℕ → Answer
+  -- the text that a read found
   found : Text → Answer
+  -- the copies that a work made, and the entries left uncopied
   counts : ℕ → ℕ → Answer

@@ -12,10 +12,66 @@ use Rattle.std.specs.declared.result.Result.the-variants.{Ok, Err}
 use Rattle.std.specs.Options.{isSome, valueOr, mapped}
 use Rattle.tables.specs.Tables.{Entry, of, Table, entry}
 use Rattle.tables.specs.declared.refusal.Refusal.{Refusal}
-use Rattle.tables.specs.declared.refusal.Refusal.the-variants.{NoSession, NoEntry, NoMode, HoldsFull, Conflict, Paused, Ended, NotReading, ShortBuffer, NotWriting, LongText, SessionsFull, NumbersSpent, RoundOpen, CountsDiffer, NoRound, Copied, Held, Uncopied}
+use Rattle.tables.specs.declared.refusal.Refusal.the-variants.{
+  NoSession,
+  NoEntry,
+  NoMode,
+  HoldsFull,
+  Conflict,
+  Paused,
+  Ended,
+  NotReading,
+  ShortBuffer,
+  NotWriting,
+  LongText,
+  SessionsFull,
+  NumbersSpent,
+  RoundOpen,
+  CountsDiffer,
+  NoRound,
+  Copied,
+  Held,
+  Uncopied,
+}
 use Rattle.modes.specs.Kind.{Kind}
 use Rattle.rules.specs.Numbers.{maybe, changed, any-below, lowest, first-of}
-use Rattle.rules.specs.Office.{Text, Side, neither, before, after, is-before, is-after, Session, new-session, Office, entries, session, mode-at, is-held, others-held, live-count, uncopied, Call, begin, claim, read, write, commit, leave, open-round, copy, work, close-round, drop-round, Answer, refused, done, number, found, counts}
+use Rattle.rules.specs.Office.{
+  Text,
+  Side,
+  neither,
+  before,
+  after,
+  is-before,
+  is-after,
+  Session,
+  new-session,
+  Office,
+  entries,
+  session,
+  mode-at,
+  is-held,
+  others-held,
+  live-count,
+  uncopied,
+  Call,
+  begin,
+  claim,
+  read,
+  write,
+  commit,
+  leave,
+  open-round,
+  copy,
+  work,
+  close-round,
+  drop-round,
+  Answer,
+  refused,
+  done,
+  number,
+  found,
+  counts,
+}
 
 -- ── what the tests ask ──
 

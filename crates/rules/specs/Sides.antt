@@ -5,7 +5,23 @@ use Prim.Native.Nat.{ℕ}
 use lib.Dec.{eqb}
 use Rattle.rules.specs.Office.{Side, neither, before, is-before, is-after}
 use Rattle.rules.specs.Rules.{first-side}
-use Rattle.rules.specs.History.{claims, reads, writes, commits, leaves, Event, nothing, by, opens, copies, works, closes, drops, Log, events}
+use Rattle.rules.specs.History.{
+  claims,
+  reads,
+  writes,
+  commits,
+  leaves,
+  Event,
+  nothing,
+  by,
+  opens,
+  copies,
+  works,
+  closes,
+  drops,
+  Log,
+  events,
+}
 use Rattle.rules.specs.Holding.{holds-any}
 use Rattle.rules.specs.Copying.{copied}
 

@@ -8,7 +8,24 @@ use Rattle.std.specs.declared.option.Option.the-variants.{None, Some}
 use Rattle.tables.specs.Tables.{Table}
 use Rattle.rules.specs.Numbers.{maybe, one-if}
 use Rattle.rules.specs.Office.{Text}
-use Rattle.rules.specs.History.{SessionEvent, claims, reads, writes, commits, leaves, Event, nothing, by, opens, copies, works, closes, drops, Log, events}
+use Rattle.rules.specs.History.{
+  SessionEvent,
+  claims,
+  reads,
+  writes,
+  commits,
+  leaves,
+  Event,
+  nothing,
+  by,
+  opens,
+  copies,
+  works,
+  closes,
+  drops,
+  Log,
+  events,
+}
 
 -- ── of a session's events ──
 
