@@ -1,11 +1,11 @@
--- Kinds of modes: what a kind answers, the laws that it owes, and the two kinds.
+-- Kinds of modes: what a kind answers, the laws that every kind owes, and two kinds.
 use mathlib.Core.Path.{_≡_}
 use mathlib.Core.Bool.{Bool, true, not, _&&_, _||_}
 use Prim.Native.Nat.{ℕ, max, _≤_, _<_}
 use lib.Dec.{eqb}
 
--- a kind of modes: its modes are the codes below `modes`, and of these it says which read, which write,
--- which two conflict, and which mode is the join of two
+-- a kind of modes: how many there are, which read, which write, which two conflict, and the join of two;
+-- a mode is a code below `modes`, and what is answered for other codes has no meaning
 pub record Kind : Type 0 where
   pub modes : ℕ
   pub reads : ℕ → Bool
@@ -13,11 +13,11 @@ pub record Kind : Type 0 where
   pub conflict : ℕ → ℕ → Bool
   pub join : ℕ → ℕ → ℕ
 
--- the laws that every kind owes, each for the codes of its modes
+-- the laws that every kind owes, for the codes of its modes
 pub record Laws (K : Kind) : Type 0 where
-  -- there are 1 to 8 modes
+  -- there are from 1 to 8 modes
   pub few : (1 ≤ K .modes) × (K .modes ≤ 8)
-  -- a conflict has no order
+  -- conflict is symmetric
   pub both-sides : (a b : ℕ) → a < K .modes → b < K .modes → K .conflict a b ≡ K .conflict b a
   -- a mode that writes also reads
   pub writer-reads : (a : ℕ) → a < K .modes → K .writes a ≡ true → K .reads a ≡ true
@@ -34,7 +34,8 @@ pub record Laws (K : Kind) : Type 0 where
   -- at least one mode writes
   pub one-writes : (a : ℕ) × (a < K .modes) × (K .writes a ≡ true)
 
--- the plain kind, 0 read and 1 write: only read with read does not conflict
+-- the plain kind, 0 read and 1 write: both read; only read with read does not conflict; a join is the
+-- greater code
 abbrev pub plain : Kind
 plain =
     record {
@@ -45,14 +46,14 @@ plain =
       join = max;
     }
 
--- the draft kind, 0 read, 1 reserve and 2 write: only read with read, and read with reserve either way
--- round, do not conflict
+-- the draft kind, 0 read, 1 reserve and 2 write: all read; only read with read, and read with reserve
+-- either way round, do not conflict; a join is the greater code
 abbrev pub draft : Kind
 draft =
     record {
       modes = 3;
       reads = λ a. true;
       writes = λ a. eqb a 2;
-      conflict = λ a b. not ((eqb a 0 && eqb b 0) || ((eqb a 0 && eqb b 1) || (eqb a 1 && eqb b 0)));
+      conflict = λ a b. not ((eqb a 0 && eqb b 0) || (eqb a 0 && eqb b 1) || (eqb a 1 && eqb b 0));
       join = max;
     }

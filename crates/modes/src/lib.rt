@@ -1,9 +1,9 @@
-// Kinds of modes of holding.
+// Modes of holding, by kinds.
 //
-// Job: the trait of kinds of modes, and the two kinds, plain and draft.
+// Job: the trait of the kinds of modes, and two kinds, plain and draft.
 // May use: std alone.
-// Main promise: a kind answers every question as its one meaning says, which never changes and keeps the laws
-// that every kind owes.
+// Main promise: a kind answers every question as its meaning says, which never changes and keeps the laws that
+// every kind owes.
 
 pub mod draft;
 pub mod modes;

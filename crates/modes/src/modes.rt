@@ -1,16 +1,16 @@
 ghost use mathlib.Core.Path.{_≡_};
 ghost use Rattle.modes.specs.Kind.{Kind, Laws};
 
-// A kind of modes. Its modes are the codes below `modes()`. Each question is answered for every code, and
-// for one that is no mode the answer tells nothing.
+// A kind of modes. Its modes have the codes from 0 up to, and without, `modes()`. It answers for every code;
+// what it answers for one that is no mode's has no meaning.
 pub trait Modes {
-    // what the kind answers
+    // what it answers, once and for all
     ghost kind: { Kind };
 
-    // the laws that every kind owes
+    // it keeps the laws that every kind owes
     law lawful: { Laws kind };
 
-    // The number of modes, 1 to 8.
+    // The number of modes, from 1 to 8.
     fn modes(&self) -> u8
         ensures { λ r. ⌜ r ≡ kind .modes ⌝ };
 

@@ -14,25 +14,32 @@ impl Plain {
     const MODES: u8 = 2;
 }
 
+// The plain kind is a kind of modes.
 pub impl Modes for Plain as PlainModes {
+    // the plain kind's answers
     ghost kind = { plain };
 
+    // Read and write.
     fn modes(&self) -> u8 {
         Plain::MODES
     }
 
+    // Both modes read.
     fn reads(&self, _mode: u8) -> bool {
         true
     }
 
+    // Only write writes.
     fn writes(&self, mode: u8) -> bool {
         mode == Plain::WRITE
     }
 
+    // Only read with read does not conflict.
     fn conflict(&self, a: u8, b: u8) -> bool {
         !(a == Plain::READ && b == Plain::READ)
     }
 
+    // The greater code.
     fn join(&self, a: u8, b: u8) -> u8 {
         a.max(b)
     }
