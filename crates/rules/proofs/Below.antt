@@ -6,7 +6,8 @@ use Prim.Native.Nat.{ℕ, zero, suc, _<_}
 use native.Mathlib.Omega.{arith}
 use Rattle.std.specs.declared.option.Option.{Option}
 use Rattle.std.specs.declared.option.Option.the-variants.{None, Some}
-use Rattle.rules.specs.Numbers.{maybe, any-below, one-if, count-below, lowest}
+use Rattle.std.specs.Options.{orOther}
+use Rattle.rules.specs.Numbers.{any-below, one-if, count-below, lowest}
 use Rattle.rules.proofs.Tests.{bool?, not-both, bool-ext, or-true, or-right, same?, some-none, same-value}
 
 -- ── a number that passes ──
@@ -49,7 +50,7 @@ lowest-some zero p e q = some-none q refl
 lowest-some (suc n) p e q = go (lowest-some n p) (lowest n p) refl (p n) refl q
   where
     go : ((k : ℕ) → lowest n p ≡ Some k → (k < n) × (p k ≡ true)) → (x : Option ℕ) → lowest n p ≡ x → (b : Bool) → p n ≡ b
-        → maybe x (cond b (Some n) None) Some ≡ Some e → (e < suc n) × (p e ≡ true)
+        → orOther x (cond b (Some n) None) ≡ Some e → (e < suc n) × (p e ≡ true)
     go ih None i true j r =
         let h : n ≡ e = same-value {x = Some n} refl r in
         (omega arith, subst (λ k. p k ≡ true) h j)

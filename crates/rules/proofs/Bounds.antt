@@ -9,10 +9,25 @@ use lib.Seq.{getD-set-same, getD-set-other}
 use lib.Dec.{ltb, ltb→lt}
 use Rattle.std.specs.declared.option.Option.{Option}
 use Rattle.std.specs.declared.option.Option.the-variants.{None, Some}
+use Rattle.std.specs.Options.{isSome, valueOr, mapped}
 use Rattle.tables.specs.Tables.{Entry, blank, Table, entry, Lawful-entry, Lawful}
-use Rattle.rules.specs.Numbers.{some?, or-else, changed, one-if, count-below}
+use Rattle.rules.specs.Numbers.{changed, one-if, count-below}
 use Rattle.rules.specs.Office.{Text, Session, new-session, Office, entries, session, is-held, live-count}
-use Rattle.rules.specs.Rules.{next-of, with-session, after-begin, after-leave, committed-entry, has-text, after-commit, opened-session, after-open, sideless, after-round, after-copy, after-work}
+use Rattle.rules.specs.Rules.{
+  next-of,
+  with-session,
+  after-begin,
+  after-leave,
+  committed-entry,
+  has-text,
+  after-commit,
+  opened-session,
+  after-open,
+  sideless,
+  after-round,
+  after-copy,
+  after-work,
+}
 use Rattle.rules.proofs.Tests.{to-T, bool?, same?, changed-same, changed-other, at-changed, some-none, same-value}
 use Rattle.rules.proofs.Below.{count-same, count-less}
 use Rattle.rules.proofs.Entries.{length-each, entry-each}
@@ -21,7 +36,7 @@ use Rattle.rules.proofs.Declined.{at-most-if}
 
 -- a session's texts have at most 96 bytes
 abbrev pub Short : Option Session → Type 0
-Short y = (e : ℕ) (t : Text) → or-else y new-session .text e ≡ Some t → length t ≤ 96
+Short y = (e : ℕ) (t : Text) → valueOr y new-session .text e ≡ Some t → length t ≤ 96
 
 -- the next hand leaves room for a commit of each live session; the texts written are short; the live table is lawful, and
 -- under P the image
@@ -41,19 +56,19 @@ short-write x e t h f j =
     at-changed (λ j y. (u : Text) → y ≡ Some u → length u ≤ 96) (x .text) e (Some t)
     (λ u q. subst (λ z. length z ≤ 96) (same-value {x = Some t} refl q) h) (λ j ne. f j) j
 
-short-opened : (n : ℕ) (y : Option Session) → Short y → Short (opened-session n y)
+short-opened : (n : ℕ) (y : Option Session) → Short y → Short (mapped (opened-session n) y)
 short-opened n None h = h
 short-opened n (Some x) h = h
 
-short-sideless : (y : Option Session) → Short y → Short (sideless y)
+short-sideless : (y : Option Session) → Short y → Short (mapped sideless y)
 short-sideless None h = h
 short-sideless (Some x) h = h
 
-some-opened : (n : ℕ) (y : Option Session) → some? (opened-session n y) ≡ some? y
+some-opened : (n : ℕ) (y : Option Session) → isSome (mapped (opened-session n) y) ≡ isSome y
 some-opened n None = refl
 some-opened n (Some x) = refl
 
-some-sideless : (y : Option Session) → some? (sideless y) ≡ some? y
+some-sideless : (y : Option Session) → isSome (mapped sideless y) ≡ isSome y
 some-sideless None = refl
 some-sideless (Some x) = refl
 
@@ -90,10 +105,10 @@ module _ (P : Type 0) (o : Office) (f : Bounded P o) where
 
   pub bounded-begin : o .next-session ≤ 4_000_000_000 → Bounded P (after-begin o)
   bounded-begin h =
-      let c = count-same (o .next-session) (λ s. some? (changed (o .sessions) (o .next-session) (Some new-session) s)) (λ s. some? (o .sessions s))
-      (λ j lt. ap some? (changed-other (o .sessions) (o .next-session) (Some new-session) j (omega arith))) in
-      let d : one-if (some? (changed (o .sessions) (o .next-session) (Some new-session) (o .next-session))) ≡ 1 =
-      ap (λ y. one-if (some? y)) (changed-same (o .sessions) (o .next-session) (Some new-session)) in
+      let c = count-same (o .next-session) (λ s. isSome (changed (o .sessions) (o .next-session) (Some new-session) s)) (λ s. isSome (o .sessions s))
+      (λ j lt. ap isSome (changed-other (o .sessions) (o .next-session) (Some new-session) j (omega arith))) in
+      let d : one-if (isSome (changed (o .sessions) (o .next-session) (Some new-session) (o .next-session))) ≡ 1 =
+      ap (λ y. one-if (isSome y)) (changed-same (o .sessions) (o .next-session) (Some new-session)) in
       let r = f .room in
       record {
         room = omega arith;
@@ -107,8 +122,8 @@ module _ (P : Type 0) (o : Office) (f : Bounded P o) where
   -- a session changed
   pub bounded-changed : (k : ℕ) (x y : Session) → o .sessions k ≡ Some x → Short (Some y) → Bounded P (with-session o k (Some y))
   bounded-changed k x y q sh =
-      let c = count-same (o .next-session) (λ s. some? (changed (o .sessions) k (Some y) s)) (λ s. some? (o .sessions s))
-      (λ j lt. at-changed (λ j z. some? z ≡ some? (o .sessions j)) (o .sessions) k (Some y) (sym (ap some? q)) (λ j ne. refl) j) in
+      let c = count-same (o .next-session) (λ s. isSome (changed (o .sessions) k (Some y) s)) (λ s. isSome (o .sessions s))
+      (λ j lt. at-changed (λ j z. isSome z ≡ isSome (o .sessions j)) (o .sessions) k (Some y) (sym (ap isSome q)) (λ j ne. refl) j) in
       let r = f .room in
       let b = below k x q in
       record {
@@ -121,10 +136,10 @@ module _ (P : Type 0) (o : Office) (f : Bounded P o) where
       }
 
   -- a session ended: one fewer is live
-  one-less : (k : ℕ) (x : Session) → o .sessions k ≡ Some x → suc (count-below (o .next-session) (λ s. some? (changed (o .sessions) k None s))) ≡ live-count o
+  one-less : (k : ℕ) (x : Session) → o .sessions k ≡ Some x → suc (count-below (o .next-session) (λ s. isSome (changed (o .sessions) k None s))) ≡ live-count o
   one-less k x q =
-      count-less (o .next-session) (λ s. some? (o .sessions s)) (λ s. some? (changed (o .sessions) k None s)) k (below k x q) (ap some? q)
-      (ap some? (changed-same (o .sessions) k None)) (λ j ne. ap some? (changed-other (o .sessions) k None j ne))
+      count-less (o .next-session) (λ s. isSome (o .sessions s)) (λ s. isSome (changed (o .sessions) k None s)) k (below k x q) (ap isSome q)
+      (ap isSome (changed-same (o .sessions) k None)) (λ j ne. ap isSome (changed-other (o .sessions) k None j ne))
 
   fresh-ended : (k : ℕ) (x : Session) → o .sessions k ≡ Some x → (s : ℕ) → o .next-session ≤ s → changed (o .sessions) k None s ≡ None
   fresh-ended k x q s lt = let b = below k x q in changed-other (o .sessions) k None s (omega arith) ∙ f .fresh s lt
@@ -182,12 +197,12 @@ module _ (P : Type 0) (o : Office) (f : Bounded P o) where
 
   pub bounded-open : Bounded P (after-open o)
   bounded-open =
-      let c = count-same (o .next-session) (λ s. some? (opened-session (entries o) (o .sessions s))) (λ s. some? (o .sessions s)) (λ j lt. some-opened (entries o) (o .sessions j)) in
+      let c = count-same (o .next-session) (λ s. isSome (mapped (opened-session (entries o)) (o .sessions s))) (λ s. isSome (o .sessions s)) (λ j lt. some-opened (entries o) (o .sessions j)) in
       let r = f .room in
       record {
         room = omega arith;
         few = f .few;
-        fresh = λ s lt. ap (opened-session (entries o)) (f .fresh s lt);
+        fresh = λ s lt. ap (mapped (opened-session (entries o))) (f .fresh s lt);
         short = λ s. short-opened (entries o) (o .sessions s) (f .short s);
         lawful = f .lawful;
         lawful-image = f .lawful-image;
@@ -195,12 +210,12 @@ module _ (P : Type 0) (o : Office) (f : Bounded P o) where
 
   pub bounded-end : Bounded P (after-round o)
   bounded-end =
-      let c = count-same (o .next-session) (λ s. some? (sideless (o .sessions s))) (λ s. some? (o .sessions s)) (λ j lt. some-sideless (o .sessions j)) in
+      let c = count-same (o .next-session) (λ s. isSome (mapped sideless (o .sessions s))) (λ s. isSome (o .sessions s)) (λ j lt. some-sideless (o .sessions j)) in
       let r = f .room in
       record {
         room = omega arith;
         few = f .few;
-        fresh = λ s lt. ap sideless (f .fresh s lt);
+        fresh = λ s lt. ap (mapped sideless) (f .fresh s lt);
         short = λ s. short-sideless (o .sessions s) (f .short s);
         lawful = f .lawful;
         lawful-image = f .lawful-image;

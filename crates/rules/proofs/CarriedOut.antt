@@ -1,7 +1,7 @@
 -- Sessions that read right entry by entry are carried out right on a table.
 use mathlib.Core.Path.{_≡_, sym, _∙_, ap}
 use mathlib.Core.Logic.{_⊎_, inl}
-use mathlib.Core.Bool.{Bool, true, false}
+use mathlib.Core.Bool.{Bool, true, false, cond}
 use mathlib.Core.List.{[], _∷_}
 use Prim.Native.Nat.{ℕ, _<_}
 use lib.ListN.{length}
@@ -12,7 +12,7 @@ use Rattle.tables.specs.Tables.{Entry, Table, entry}
 use Rattle.rules.specs.Numbers.{maybe}
 use Rattle.rules.specs.History.{Log, events}
 use Rattle.rules.specs.Writing.{last-write, committer, is-open}
-use Rattle.rules.specs.Laying.{laid, Reads-right, unless, Carried-right}
+use Rattle.rules.specs.Laying.{laid, Reads-right, Carried-right}
 use Rattle.rules.proofs.Tests.{from-T}
 use Rattle.rules.proofs.Commits.{of-commit, Commits, commits-map}
 use Rattle.rules.proofs.Texts.{has-read, reads-same}
@@ -39,10 +39,10 @@ carried-out first S C f P t (r ∷ l) h a c = go (is-open (r .event)) (committer
         ∙ sym (entry-laid first S t l e (i .0))))
         (r .0)
 
-    go : (b : Bool) (x : Option ℕ) → unless b (of-commit (λ p s. S s ≡ C p s) l x (Commits (λ p s. S s ≡ C p s) l))
-        → unless b (of-commit Fact l x (Commits Fact l))
+    go : (b : Bool) (x : Option ℕ) → cond b (Unit {0}) (of-commit (λ p s. S s ≡ C p s) l x (Commits (λ p s. S s ≡ C p s) l))
+        → cond b (Unit {0}) (of-commit Fact l x (Commits Fact l))
         → (Commits (λ p s. S s ≡ C p s) l → Commits Fact l → Carried-right first S t l)
-        → unless b (maybe x (Carried-right first S t l) (λ s. (T (S s) → Reads-right (entry (laid first S t l)) (events l s)) × Carried-right first S t l))
+        → cond b (Unit {0}) (maybe x (Carried-right first S t l) (λ s. (T (S s) → Reads-right (entry (laid first S t l)) (events l s)) × Carried-right first S t l))
     go true x a c ih = tt
     go false None a c ih = ih a c
     go false (Some s) a c ih = (one s (a .0) (a .1) (c .0), ih (a .1) (c .1))

@@ -8,9 +8,10 @@ use native.Mathlib.Omega.{arith}
 use lib.Dec.{eqb}
 use Rattle.std.specs.declared.option.Option.{Option}
 use Rattle.std.specs.declared.option.Option.the-variants.{None, Some}
+use Rattle.std.specs.Options.{isSome, valueOr}
 use Rattle.tables.specs.Tables.{Table, entry}
 use Rattle.modes.specs.Kind.{Kind, Laws}
-use Rattle.rules.specs.Numbers.{some?, or-else, changed}
+use Rattle.rules.specs.Numbers.{changed}
 use Rattle.rules.specs.Office.{Side, neither, before, after, is-before, is-after, Session, new-session, Office, mode-at}
 use Rattle.rules.specs.Rules.{holds-mode, wanted, conflicts, with-session, first-side}
 use Rattle.rules.specs.History.{claims, by, Log, events}
@@ -65,23 +66,30 @@ no-conflict K o k e w s b h lt ne q =
 
 module _ (K : Kind) (L : Laws K) (first n : ℕ) (o : Office) (l : Log) (t : Table) (k e m : ℕ) (x : Session) (i : Inv K first n o l) (q : o .sessions k ≡ Some x)
     (lt : e < n) (lm : m < K .modes) (free : conflicts K o k e (wanted K m (x .mode e)) ≡ false) where
+  -- the wanted mode, and the side after the claim
+  abbrev w : ℕ
+  w = wanted K m (x .mode e)
+
+  abbrev σ′ : Side
+  σ′ = cond (o .round) (first-side (x .side) (o .copied e)) (x .side)
+
   -- the session after the claim, with side σ
   abbrev claimed : Side → Session
-  claimed σ = record { side = σ; mode = changed (x .mode) e (Some (wanted K m (x .mode e))); text = x .text }
+  claimed σ = record { side = σ; mode = changed (x .mode) e (Some w); text = x .text }
 
   known : Known K n (entry (o .live)) (events l k) x
   known = live-status K first n o l i k x q .1
 
-  wanted-inside : wanted K m (x .mode e) < K .modes
+  wanted-inside : w < K .modes
   wanted-inside = wanted-mode K L m lm (x .mode e) (λ h p. known .inside e h p .1)
 
   -- a mode held before that passes p is at the same entry a mode that passes p
   kept-mode : (p : ℕ → Bool) → ((a b : ℕ) → a < K .modes → b < K .modes → p (K .join a b) ≡ (p a || p b))
-      → (j h : ℕ) → x .mode j ≡ Some h → p h ≡ true → (b : ℕ) × (changed (x .mode) e (Some (wanted K m (x .mode e))) j ≡ Some b) × (p b ≡ true)
+      → (j h : ℕ) → x .mode j ≡ Some h → p h ≡ true → (b : ℕ) × (changed (x .mode) e (Some w) j ≡ Some b) × (p b ≡ true)
   kept-mode p joins j h z r =
       elim (same? j e) [
         | inl c ↦ (
-          wanted K m (x .mode e),
+          w,
           rw (c .0),
           wanted-passes K L m lm p joins (x .mode e) h (known .inside j h z .1) (subst (λ i. x .mode i ≡ Some h) (c .1) z) r,
         )
@@ -92,13 +100,13 @@ module _ (K : Kind) (L : Laws K) (first n : ℕ) (o : Office) (l : Log) (t : Tab
   known-claimed σ =
       record {
         holds-is = λ j. elim (same? j e) [ inl c ↦ rw (c .0) | inr c ↦ rw (c .0) (known .holds-is j) ];
-        holds-any-is = sym (any-yes n (λ j. some? (changed (x .mode) e (Some (wanted K m (x .mode e))) j)) e lt (ap some? (changed-same (x .mode) e (Some (wanted K m (x .mode e))))));
+        holds-any-is = sym (any-yes n (λ j. isSome (changed (x .mode) e (Some w) j)) e lt (ap isSome (changed-same (x .mode) e (Some w))));
         inside = λ j b h. elim (same? j e) [
           | inl c ↦
-              let h′ : Some (wanted K m (x .mode e)) ≡ Some b = rw (c .0) at h in
-              let r : wanted K m (x .mode e) ≡ b = same-value {x = Some (wanted K m (x .mode e))} refl h′ in
+              let h′ : Some w ≡ Some b = rw (c .0) at h in
+              let r : w ≡ b = same-value {x = Some w} refl h′ in
               let r1 = c .1 in
-              let w = wanted-inside in
+              let wi = wanted-inside in
               (omega arith, omega arith)
           | inr c ↦ known .inside j b (rw (c .0) at h)
         ];
@@ -111,24 +119,24 @@ module _ (K : Kind) (L : Laws K) (first n : ℕ) (o : Office) (l : Log) (t : Tab
 
   -- a hold of the office after the claim: the claimed one, or an old one
   abbrev New-hold : ℕ → ℕ → ℕ → Type 0
-  New-hold s j b = ((s ≡ k) × (j ≡ e) × (b ≡ wanted K m (x .mode e))) ⊎ (mode-at o s j ≡ Some b)
+  New-hold s j b = ((s ≡ k) × (j ≡ e) × (b ≡ w)) ⊎ (mode-at o s j ≡ Some b)
 
   new-hold : (σ : Side) (s j b : ℕ) → mode-at (with-session o k (Some (claimed σ))) s j ≡ Some b → New-hold s j b
   new-hold σ s j b =
-      at-changed (λ s y. or-else y new-session .mode j ≡ Some b → New-hold s j b) (o .sessions) k (Some (claimed σ))
+      at-changed (λ s y. valueOr y new-session .mode j ≡ Some b → New-hold s j b) (o .sessions) k (Some (claimed σ))
       (λ h. elim (same? j e) [
         | inl c ↦
-            let h′ : Some (wanted K m (x .mode e)) ≡ Some b = rw (c .0) at h in
-            inl (refl, c .1, sym (same-value {x = Some (wanted K m (x .mode e))} refl h′))
+            let h′ : Some w ≡ Some b = rw (c .0) at h in
+            inl (refl, c .1, sym (same-value {x = Some w} refl h′))
         | inr c ↦ inr (session-mode o k j b x q (let h′ : x .mode j ≡ Some b = rw (c .0) at h in h′))
       ])
       (λ s ne h. inr h) s
 
   -- the claimed hold conflicts with no other
-  apart-new : (s b : ℕ) → s ≢ k → mode-at o s e ≡ Some b → K .conflict (wanted K m (x .mode e)) b ≡ false
+  apart-new : (s b : ℕ) → s ≢ k → mode-at o s e ≡ Some b → K .conflict w b ≡ false
   apart-new s b ne h =
       let y = mode-session o s e b h in
-      no-conflict K o k e (wanted K m (x .mode e)) s b free (live-status K first n o l i s (y .0) (y .1) .0) ne h
+      no-conflict K o k e w s b free (live-status K first n o l i s (y .0) (y .1) .0) ne h
 
   mode-inside : (s j b : ℕ) → mode-at o s j ≡ Some b → b < K .modes
   mode-inside s j b h = let y = mode-session o s j b h in live-status K first n o l i s (y .0) (y .1) .1 .inside j b (y .2) .1
@@ -143,14 +151,14 @@ module _ (K : Kind) (L : Laws K) (first n : ℕ) (o : Office) (l : Log) (t : Tab
         | inr d ↦ elim (new-hold σ s′ j b′ h′) [
           | inl c′ ↦
               let f = apart-new s b (λ z. ne (z ∙ sym (c′ .0))) (subst (λ z. mode-at o s z ≡ Some b) (c′ .1) d) in
-              subst (λ z. K .conflict b z ≡ false) (sym (c′ .2)) (L .both-sides b (wanted K m (x .mode e)) (mode-inside s j b d) wanted-inside ∙ f)
+              subst (λ z. K .conflict b z ≡ false) (sym (c′ .2)) (L .both-sides b w (mode-inside s j b d) wanted-inside ∙ f)
           | inr d′ ↦ i .apart s s′ j b b′ ne d d′
         ]
       ]
 
   -- 6 and 7 do not fit
   module _ (six : (o .round && (is-after (x .side) && not (o .copied e))) ≡ false) (seven : (o .round && (is-before (x .side) && o .copied e)) ≡ false) where
-    sided-claimed : o .round ≡ true → Sided (o .copied) (first-side (side l k) (copied l e)) (Some (claimed (cond (o .round) (first-side (x .side) (o .copied e)) (x .side))))
+    sided-claimed : o .round ≡ true → Sided (o .copied) (first-side (side l k) (copied l e)) (Some (claimed σ′))
     sided-claimed r =
         let sd = live-sided K first n o l i r k x q in
         let mk : o .copied e ≡ copied l e = ap (λ f. f e) (i .in-round r .marks-are) in
@@ -164,13 +172,9 @@ module _ (K : Kind) (L : Laws K) (first n : ℕ) (o : Office) (l : Log) (t : Tab
               ]),
         )
 
-    pub inv-claim : Inv K first n (with-session o k (Some (record {
-      side = cond (o .round) (first-side (x .side) (o .copied e)) (x .side);
-      mode = changed (x .mode) e (Some (wanted K m (x .mode e)));
-      text = x .text;
-    }))) (record { event = by k (claims e); live = t } ∷ l)
+    pub inv-claim : Inv K first n (with-session o k (Some (claimed σ′))) (record { event = by k (claims e); live = t } ∷ l)
     inv-claim =
-        inv-by K first n o l t k x (claims e) (Some (claimed (cond (o .round) (first-side (x .side) (o .copied e)) (x .side)))) i q refl
-        (live-status K first n o l i k x q .0, known-claimed (cond (o .round) (first-side (x .side) (o .copied e)) (x .side)))
-        (apart-claimed (cond (o .round) (first-side (x .side) (o .copied e)) (x .side)))
+        inv-by K first n o l t k x (claims e) (Some (claimed σ′)) i q refl
+        (live-status K first n o l i k x q .0, known-claimed σ′)
+        (apart-claimed σ′)
         (λ r. rw (eqb-self k) (sided-claimed r))

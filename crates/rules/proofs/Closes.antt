@@ -4,7 +4,7 @@ use mathlib.Core.Bool.{Bool, true, false, cond, not, false≢true}
 use mathlib.Core.List.{[], _∷_}
 use Prim.Native.Nat.{ℕ, suc, _<_}
 use lib.ListN.{length}
-use lib.Dec.{eqb, T}
+use lib.Dec.{eqb}
 use Rattle.std.specs.declared.option.Option.{Option}
 use Rattle.std.specs.declared.option.Option.the-variants.{None, Some}
 use Rattle.tables.specs.Tables.{Table, Lawful}
@@ -13,17 +13,56 @@ use Rattle.tables.specs.declared.refusal.Refusal.{Refusal}
 use Rattle.tables.specs.declared.refusal.Refusal.the-variants.{Ended}
 use Rattle.modes.specs.Kind.{Kind, Laws}
 use Rattle.rules.specs.Numbers.{first-of}
-use Rattle.rules.specs.Office.{Office, greatest-hand, entries, Call, begin, claim, read, write, commit, leave, open-round, copy, work, close-round, drop-round, Answer, refused, done, number, found, counts}
+use Rattle.rules.specs.Office.{
+  Office,
+  greatest-hand,
+  entries,
+  Call,
+  begin,
+  claim,
+  read,
+  write,
+  commit,
+  leave,
+  open-round,
+  copy,
+  work,
+  close-round,
+  drop-round,
+  Answer,
+  refused,
+  done,
+  number,
+  found,
+  counts,
+}
 use Rattle.rules.specs.Rules.{declines, decided, step}
-use Rattle.rules.specs.History.{Moment, History, Run, writes, commits, leaves, Event, nothing, by, opens, copies, works, closes, drops, unless-refused, tells, log}
-use Rattle.rules.specs.Writing.{round-open}
-use Rattle.rules.specs.Round.{Image-law, Serial-law, All-images, All-serial, All-opened}
+use Rattle.rules.specs.History.{
+  Moment,
+  History,
+  Run,
+  writes,
+  commits,
+  leaves,
+  Event,
+  nothing,
+  by,
+  opens,
+  copies,
+  works,
+  closes,
+  drops,
+  unless-refused,
+  tells,
+  log,
+}
+use Rattle.rules.specs.Round.{Image-law, Serial-law, Round-law, Rounds-lawful, moment, Each-call-extends}
 use Rattle.rules.proofs.Tests.{to-T, not-both, not-false}
 use Rattle.rules.proofs.Below.{any-no}
 use Rattle.rules.proofs.Invariant.{Inv}
 use Rattle.rules.proofs.Declined.{none-fit}
 use Rattle.rules.proofs.EachCall.{inv-run}
-use Rattle.rules.proofs.RoundLaws.{round-laws}
+use Rattle.rules.proofs.RoundLaws.{serial-law, image-law}
 
 -- ── only an accepted close tells of a close ──
 
@@ -102,12 +141,11 @@ call-found K p (work k) q = other (work-close k (step K p (work k) .0)) q
 call-found K p close-round q = close-found K p (first-of (declines K p close-round)) refl q
 call-found K p drop-round q = other (unless-close (step K p drop-round .0) drops refl) q
 
--- ── the laws ──
+-- ── the law ──
 
 -- of an accepted close, after a run
 closed : (K : Kind) → Laws K → (live image : Table) → Lawful live → (m : Moment) (h : History) (o : Office) → Run K live image (m ∷ h) o
-    → tells (m .call) (m .answer) ≡ closes
-    → Image-law (suc (greatest-hand live)) (log h) (m .image) × Serial-law (suc (greatest-hand live)) (log h) (m .live) × T (round-open (log h))
+    → tells (m .call) (m .answer) ≡ closes → Round-law (suc (greatest-hand live)) (log h) (m .live) (m .image)
 closed K L live image a m h o r q =
     let first : ℕ = suc (greatest-hand live) in
     let p : Office = r .0 in
@@ -116,20 +154,17 @@ closed K L live image a m h o r q =
     let f : Found p (step K p (m .call) .1) = call-found K p (m .call) (subst P (r .2) q) in
     let g : Found p o = subst (λ (z : Answer × Office). Found p (z .1)) (sym (r .2)) f in
     let all : (e : ℕ) → e < length live → p .copied e ≡ true = λ e lt. g .1 e (subst (λ k. e < k) (sym (i .count)) lt) in
-    let R = round-laws K first (length live) p (log h) i (g .0) all in (
-      subst (λ t. Image-law first (log h) t) (sym (r .4 ∙ g .3)) (R .0),
-      subst (λ t. Serial-law first (log h) t) (sym (r .3 ∙ g .2)) (R .1),
-      to-T (i .in-round (g .0) .told-open),
-    )
+    record {
+      opened = to-T (i .in-round (g .0) .told-open);
+      image-law = subst (λ t. Image-law first (log h) t) (sym (r .4 ∙ g .3)) (image-law K first (length live) p (log h) i (g .0) all);
+      serial-law = subst (λ t. Serial-law first (log h) t) (sym (r .3 ∙ g .2)) (serial-law K first (length live) p (log h) i (g .0) all);
+    }
 
-pub all-images : All-images
-all-images K L live image a [] o r = tt
-all-images K L live image a (m ∷ h) o r = (λ q. closed K L live image a m h o r q .0, all-images K L live image a h (r .0) (r .1))
+pub rounds-lawful : Rounds-lawful
+rounds-lawful K L live image a [] o r = tt
+rounds-lawful K L live image a (m ∷ h) o r = (λ q. closed K L live image a m h o r q, rounds-lawful K L live image a h (r .0) (r .1))
 
-pub all-serial : All-serial
-all-serial K L live image a [] o r = tt
-all-serial K L live image a (m ∷ h) o r = (λ q. closed K L live image a m h o r q .1, all-serial K L live image a h (r .0) (r .1))
-
-pub all-opened : All-opened
-all-opened K L live image a [] o r = tt
-all-opened K L live image a (m ∷ h) o r = (λ q. closed K L live image a m h o r q .2, all-opened K L live image a h (r .0) (r .1))
+pub each-call-extends : Each-call-extends
+each-call-extends K L o c a p s live image lw h r =
+    let longer : Run K live image (moment c a p ∷ h) p = (o, r, s, refl, refl) in
+    (longer, rounds-lawful K L live image lw (moment c a p ∷ h) p longer)

@@ -8,9 +8,10 @@ use native.Mathlib.Omega.{arith}
 use lib.Dec.{eqb}
 use Rattle.std.specs.declared.option.Option.{Option}
 use Rattle.std.specs.declared.option.Option.the-variants.{None, Some}
+use Rattle.std.specs.Options.{isSome, valueOr}
 use Rattle.tables.specs.Tables.{Entry, Table, entry}
 use Rattle.modes.specs.Kind.{Kind, Laws}
-use Rattle.rules.specs.Numbers.{some?, or-else, changed, any-below, one-if}
+use Rattle.rules.specs.Numbers.{changed, any-below, one-if}
 use Rattle.rules.specs.Office.{Text, Side, is-before, is-after, Session, Office, entries}
 use Rattle.rules.specs.Rules.{committed-entry, each}
 use Rattle.rules.specs.History.{commits, by, Log, events}
@@ -28,7 +29,16 @@ use Rattle.rules.proofs.LaidEntries.{laid-at, laid-none}
 use Rattle.rules.proofs.Invariant.{Known, Status, Allowed, Sided, Tables, Round, Inv}
 use Rattle.rules.proofs.Holders.{session-mode, changed-holds, apart-fewer, live-status, live-sided}
 use Rattle.rules.proofs.SessionEvents.{agree-by}
-use Rattle.rules.proofs.OneCommit.{allowed-before, allowed-after, live-commit, image-commit, hand-commit, committed-is, stamp-commit, hands-commit}
+use Rattle.rules.proofs.OneCommit.{
+  allowed-before,
+  allowed-after,
+  live-commit,
+  image-commit,
+  hand-commit,
+  committed-is,
+  stamp-commit,
+  hands-commit,
+}
 
 -- the office after a commit of session k, which is x
 abbrev after-commit-of : Office → ℕ → Session → Office
@@ -38,7 +48,7 @@ after-commit-of o k x =
       image = o .image;
       sessions = changed (o .sessions) k None;
       next-session = o .next-session;
-      next-hand = cond (any-below (entries o) (λ e. some? (x .text e))) (suc (o .next-hand)) (o .next-hand);
+      next-hand = cond (any-below (entries o) (λ e. isSome (x .text e))) (suc (o .next-hand)) (o .next-hand);
       round = o .round;
       copied = o .copied;
     }
@@ -73,18 +83,18 @@ module _ (K : Kind) (L : Laws K) (first n : ℕ) (o : Office) (l : Log) (t : Tab
   wrote-inside e z p =
       let h = wrote-hold e z p in
       let lt = known .inside e (h .0) (h .1) .0 in
-      (lt, known .wrote-is ∙ any-yes n (λ e. some? (x .text e)) e lt (ap some? (known .text-is e ∙ p)))
+      (lt, known .wrote-is ∙ any-yes n (λ e. isSome (x .text e)) e lt (ap isSome (known .text-is e ∙ p)))
 
   wrote-where : wrote (events l k) ≡ true → (e : ℕ) × (e < n) × ((z : Text) × (W e ≡ Some z))
   wrote-where wr =
-      let a = any-find n (λ e. some? (x .text e)) (sym (known .wrote-is) ∙ wr) in
-      (a .0, a .1, (or-else (x .text (a .0)) [], sym (known .text-is (a .0)) ∙ is-there (x .text (a .0)) [] (a .2)))
+      let a = any-find n (λ e. isSome (x .text e)) (sym (known .wrote-is) ∙ wr) in
+      (a .0, a .1, (valueOr (x .text (a .0)) [], sym (known .text-is (a .0)) ∙ is-there (x .text (a .0)) [] (a .2)))
 
   -- ── its hand ──
 
-  hand′ : cond (any-below (entries o) (λ e. some? (x .text e))) (suc (o .next-hand)) (o .next-hand) ≡ next′
+  hand′ : cond (any-below (entries o) (λ e. isSome (x .text e))) (suc (o .next-hand)) (o .next-hand) ≡ next′
   hand′ =
-      ap (λ b. cond b (suc (o .next-hand)) (o .next-hand)) (ap (λ j. any-below j (λ e. some? (x .text e))) (i .count) ∙ sym (known .wrote-is))
+      ap (λ b. cond b (suc (o .next-hand)) (o .next-hand)) (ap (λ j. any-below j (λ e. isSome (x .text e))) (i .count) ∙ sym (known .wrote-is))
       ∙ hand-commit (wrote (events l k)) (o .next-hand) first (commits-that-wrote l) (i .hand-is)
 
   hand-rises : (e : ℕ) (z : Text) → W e ≡ Some z → H < next′

@@ -5,10 +5,11 @@ use mathlib.Core.List.{List, [], _∷_}
 use Prim.Native.Nat.{ℕ, _≤_, _<_}
 use lib.Dec.{eqb, ltb, T, ltb→lt, nltb→le}
 use Rattle.std.specs.declared.option.Option.the-variants.{None, Some}
+use Rattle.std.specs.Options.{isSome}
 use Rattle.tables.specs.Refusals.{number-of}
 use Rattle.tables.specs.declared.refusal.Refusal.{Refusal}
 use Rattle.tables.specs.declared.refusal.Refusal.the-variants.{Ended}
-use Rattle.rules.specs.Numbers.{some?, first-of}
+use Rattle.rules.specs.Numbers.{first-of}
 use Rattle.rules.specs.Office.{new-session, Office, session, mode-at}
 use Rattle.rules.specs.Rules.{holds-mode}
 use Rattle.rules.proofs.Tests.{to-T, not-false, is-there, some-none, same-value, passing}
@@ -41,8 +42,8 @@ first-not-ended (d ∷ ds) r a q = go (d .0) q (first-not-ended ds r (a .1))
     go false q ih = ih q
 
 -- a session whose number is not refused is live
-pub is-live : (o : Office) (s : ℕ) → not (some? (o .sessions s)) ≡ false → o .sessions s ≡ Some (session o s)
-is-live o s q = is-there (o .sessions s) new-session (not-false (some? (o .sessions s)) q)
+pub is-live : (o : Office) (s : ℕ) → not (isSome (o .sessions s)) ≡ false → o .sessions s ≡ Some (session o s)
+is-live o s q = is-there (o .sessions s) new-session (not-false (isSome (o .sessions s)) q)
 
 -- it holds an entry in a mode that passes
 pub holds-passing : (o : Office) (s e : ℕ) (p : ℕ → Bool) → not (holds-mode o s e p) ≡ false → (m : ℕ) × (mode-at o s e ≡ Some m) × (p m ≡ true)

@@ -13,7 +13,32 @@ use Rattle.tables.specs.declared.refusal.Refusal.{Refusal}
 use Rattle.tables.specs.declared.refusal.Refusal.the-variants.{Ended}
 use Rattle.modes.specs.Kind.{Kind, Laws}
 use Rattle.rules.specs.Numbers.{first-of}
-use Rattle.rules.specs.Office.{Text, is-before, is-after, Office, greatest-hand, new-office, entries, session, mode-at, Call, begin, claim, read, write, commit, leave, open-round, copy, work, close-round, drop-round, Answer, refused, done}
+use Rattle.rules.specs.Office.{
+  Text,
+  is-before,
+  is-after,
+  Office,
+  greatest-hand,
+  new-office,
+  entries,
+  session,
+  mode-at,
+  Call,
+  begin,
+  claim,
+  read,
+  write,
+  commit,
+  leave,
+  open-round,
+  copy,
+  work,
+  close-round,
+  drop-round,
+  Answer,
+  refused,
+  done,
+}
 use Rattle.rules.specs.Rules.{wanted, conflicts, declines, after-claim, after-leave, after-commit, decided, step}
 use Rattle.rules.specs.History.{History, Run, nothing, tells, Log, log}
 use Rattle.rules.proofs.Tests.{to-T, not-false, some-none}

@@ -7,9 +7,10 @@ use Prim.Native.Nat.{ℕ, _+_, _≤_, _<_}
 use lib.ListN.{length}
 use Rattle.std.specs.declared.option.Option.{Option}
 use Rattle.std.specs.declared.option.Option.the-variants.{None, Some}
+use Rattle.std.specs.Options.{isSome}
 use Rattle.tables.specs.Tables.{Entry, entry}
 use Rattle.modes.specs.Kind.{Kind}
-use Rattle.rules.specs.Numbers.{some?, any-below}
+use Rattle.rules.specs.Numbers.{any-below}
 use Rattle.rules.specs.Office.{Text, Side, neither, before, after, Session, Office, entries, mode-at}
 use Rattle.rules.specs.History.{SessionEvent, Log, events}
 use Rattle.rules.specs.Holding.{holds, holds-any, numbers}
@@ -46,11 +47,11 @@ Agree L l = Commits (λ p s. (side L s ≡ side p s) × (wrote (events L s) ≡ 
 abbrev pub Known : Kind → ℕ → (ℕ → Entry) → List SessionEvent → Session → Type 0
 Known K n f vs x =
     record {
-      holds-is : (e : ℕ) → holds vs e ≡ some? (x .mode e);
-      holds-any-is : holds-any vs ≡ any-below n (λ e. some? (x .mode e));
+      holds-is : (e : ℕ) → holds vs e ≡ isSome (x .mode e);
+      holds-any-is : holds-any vs ≡ any-below n (λ e. isSome (x .mode e));
       inside : (e m : ℕ) → x .mode e ≡ Some m → (e < n) × (m < K .modes);
       text-is : (e : ℕ) → x .text e ≡ last-write vs e;
-      wrote-is : wrote vs ≡ any-below n (λ e. some? (x .text e));
+      wrote-is : wrote vs ≡ any-below n (λ e. isSome (x .text e));
       writer : (e : ℕ) (t : Text) → x .text e ≡ Some t → (m : ℕ) × (x .mode e ≡ Some m) × (K .writes m ≡ true);
       reader : (e : ℕ) → has-read vs e ≡ true → (m : ℕ) × (x .mode e ≡ Some m) × (K .reads m ≡ true);
       reads-right : Reads-right f vs;

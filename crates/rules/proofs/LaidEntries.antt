@@ -13,7 +13,7 @@ use Rattle.rules.specs.Numbers.{maybe}
 use Rattle.rules.specs.Office.{Text}
 use Rattle.rules.specs.History.{Log, events}
 use Rattle.rules.specs.Writing.{last-write, committer, is-open, commits-that-wrote}
-use Rattle.rules.specs.Laying.{lay-entry, lay, laid, unless}
+use Rattle.rules.specs.Laying.{lay-entry, lay, laid}
 use Rattle.rules.proofs.Tests.{bool?}
 use Rattle.rules.proofs.Entries.{length-each, entry-each}
 use Rattle.rules.proofs.Commits.{of-commit, Commits, commits-map}
@@ -94,7 +94,7 @@ laid-same first C D (r ∷ l) e x h = go (is-open (r .event)) (committer (r .eve
         ∙ ih
         ∙ sym (lay-none (D l s) H (last-write (events l s) e) (laid-at first D l e x) q)
 
-    go : (b : Bool) (c : Option ℕ) → unless b (of-commit Same l c (Commits Same l))
+    go : (b : Bool) (c : Option ℕ) → cond b (Unit {0}) (of-commit Same l c (Commits Same l))
         → (Commits Same l → laid-at first C l e x ≡ laid-at first D l e x)
         → cond b x (laid-at-commit first C l c e (laid-at first C l e x)) ≡ cond b x (laid-at-commit first D l c e (laid-at first D l e x))
     go true c h ih = refl

@@ -23,4 +23,4 @@ pub mod Closes
 pub mod EveryList
 pub mod EqualOffices
 pub mod Bounds
-pub mod StaysLawful
+pub mod TablesLawful

@@ -11,7 +11,7 @@ use Rattle.rules.specs.Office.{Text, Side, neither, before, after, is-before, 
 use Rattle.rules.specs.History.{Log, events}
 use Rattle.rules.specs.Sides.{side, Before, After}
 use Rattle.rules.specs.Writing.{last-write, committer, is-open, commits-that-wrote}
-use Rattle.rules.specs.Laying.{lay-entry, unless}
+use Rattle.rules.specs.Laying.{lay-entry}
 use Rattle.rules.proofs.Tests.{some-none}
 use Rattle.rules.proofs.Commits.{of-commit, Commits}
 use Rattle.rules.proofs.LaidEntries.{Choice, laid-at-commit, laid-at, None-wrote}
@@ -55,12 +55,12 @@ editions first S (r ∷ l) e x na ws = go (is-open (r .event)) (committer (r .ev
     put (Some t) true true f ih = let i = ih .0 in (omega arith, λ q. (λ t z. refl, ih .1 (omega arith)))
     put (Some t) false true f ih = let i = ih .0 in (omega arith, λ q. absurd (omega arith))
 
-    go : (b : Bool) (c : Option ℕ) → unless b (of-commit (λ p s. After p s ≡ true → last-write (events p s) e ≡ None) l c (None-wrote After e l))
-        → unless b (of-commit (λ p s. side p s ≡ neither → (e : ℕ) → last-write (events p s) e ≡ None) l c (Writers-sided l))
+    go : (b : Bool) (c : Option ℕ) → cond b (Unit {0}) (of-commit (λ p s. After p s ≡ true → last-write (events p s) e ≡ None) l c (None-wrote After e l))
+        → cond b (Unit {0}) (of-commit (λ p s. side p s ≡ neither → (e : ℕ) → last-write (events p s) e ≡ None) l c (Writers-sided l))
         → (None-wrote After e l → Writers-sided l → (X .edition ≤ Y .edition) × (X .edition ≡ Y .edition → Commits (Told-apart S e) l))
         → (cond b x (laid-at-commit first (λ _. S) l c e X) .edition ≤ cond b x (laid-at-commit first Before l c e Y) .edition)
         × (cond b x (laid-at-commit first (λ _. S) l c e X) .edition ≡ cond b x (laid-at-commit first Before l c e Y) .edition
-        → unless b (of-commit (Told-apart S e) l c (Commits (Told-apart S e) l)))
+        → cond b (Unit {0}) (of-commit (Told-apart S e) l c (Commits (Told-apart S e) l)))
     go true c na ws ih = (omega arith, λ q. tt)
     go false None na ws ih = ih na ws
     go false (Some s) na ws ih =
@@ -103,12 +103,12 @@ one-set first S (r ∷ l) e x hs io ws q = go (is-open (r .event)) (committer (r
     put (Some t) false false hx hy ed ih q = (λ t z. refl, ih q)
 
     go : (b : Bool) (c : Option ℕ)
-        → unless b (of-commit (Hands-below first e x) l c (Commits (Hands-below first e x) l))
-        → unless b (of-commit (λ p s. Before p s ≡ true → (w : Text) → last-write (events p s) e ≡ Some w → None-wrote After e p) l c (In-order e l))
-        → unless b (of-commit (λ p s. side p s ≡ neither → (e : ℕ) → last-write (events p s) e ≡ None) l c (Writers-sided l))
+        → cond b (Unit {0}) (of-commit (Hands-below first e x) l c (Commits (Hands-below first e x) l))
+        → cond b (Unit {0}) (of-commit (λ p s. Before p s ≡ true → (w : Text) → last-write (events p s) e ≡ Some w → None-wrote After e p) l c (In-order e l))
+        → cond b (Unit {0}) (of-commit (λ p s. side p s ≡ neither → (e : ℕ) → last-write (events p s) e ≡ None) l c (Writers-sided l))
         → cond b x (laid-at-commit first (λ _. S) l c e X) ≡ cond b x (laid-at-commit first Before l c e Y)
         → (Commits (Hands-below first e x) l → In-order e l → Writers-sided l → X ≡ Y → Commits (Told-apart S e) l)
-        → unless b (of-commit (Told-apart S e) l c (Commits (Told-apart S e) l))
+        → cond b (Unit {0}) (of-commit (Told-apart S e) l c (Commits (Told-apart S e) l))
     go true c hs io ws q ih = tt
     go false None hs io ws q ih = ih hs io ws q
     go false (Some s) hs io ws q ih =

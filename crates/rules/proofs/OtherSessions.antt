@@ -7,7 +7,24 @@ use Prim.Native.Nat.{ℕ, _≤_}
 use native.Mathlib.Omega.{arith}
 use Rattle.tables.specs.Tables.{Table}
 use Rattle.rules.specs.Office.{neither, before}
-use Rattle.rules.specs.History.{SessionEvent, claims, reads, writes, commits, leaves, Event, nothing, by, opens, copies, works, closes, drops, Log, events}
+use Rattle.rules.specs.History.{
+  SessionEvent,
+  claims,
+  reads,
+  writes,
+  commits,
+  leaves,
+  Event,
+  nothing,
+  by,
+  opens,
+  copies,
+  works,
+  closes,
+  drops,
+  Log,
+  events,
+}
 use Rattle.rules.specs.Holding.{holds-any, above, numbers}
 use Rattle.rules.specs.Sides.{side}
 use Rattle.rules.proofs.Tests.{eqb-self, eqb-apart}

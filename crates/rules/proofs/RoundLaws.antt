@@ -15,7 +15,7 @@ use Rattle.rules.specs.History.{Log, events}
 use Rattle.rules.specs.Sides.{side, Before, After}
 use Rattle.rules.specs.Writing.{last-write, wrote, commits-that-wrote, committed, opening}
 use Rattle.rules.specs.Laying.{laid}
-use Rattle.rules.specs.Round.{Just-before, Image-law, Serial-law}
+use Rattle.rules.specs.Round.{Exactly-before, Image-law, Serial-law}
 use Rattle.rules.proofs.Tests.{to-T, from-T, bool?, not-both}
 use Rattle.rules.proofs.Commits.{Commits, commits-map, commits-both, commits-each, commits-find}
 use Rattle.rules.proofs.Texts.{wrote-if}
@@ -55,7 +55,7 @@ module _ (K : Kind) (first n : ℕ) (p : Office) (l : Log) (i : Inv K first n p 
 
   -- ── the serial law ──
 
-  serial-law : Serial-law first l (p .live)
+  pub serial-law : Serial-law first l (p .live)
   serial-law =
       let c = opening-count in
       let d = befores-count in
@@ -97,7 +97,7 @@ module _ (K : Kind) (first n : ℕ) (p : Office) (l : Log) (i : Inv K first n p 
       (λ q s m h. (h, wrote-if (events q s) e)) (tables .writers-sided))
 
   -- such a set gives the image
-  gives-image : (S : ℕ → Bool) → Just-before l S → laid first S (opening l) l ≡ p .image
+  gives-image : (S : ℕ → Bool) → Exactly-before l S → laid first S (opening l) l ≡ p .image
   gives-image S jb =
       let c = length-laid first S (opening l) l ∙ opening-count in
       ext-getD blank (laid first S (opening l) l) (p .image) (c ∙ sym (i .in-round rd .image-count))
@@ -159,7 +159,7 @@ module _ (K : Kind) (first n : ℕ) (p : Office) (l : Log) (i : Inv K first n p 
   not-before before h = absurd (false≢true h)
   not-before after h = refl
 
-  only-such : (S : ℕ → Bool) → ((s : ℕ) → T (S s) → T (committed l s)) → laid first S (opening l) l ≡ p .image → Just-before l S
+  only-such : (S : ℕ → Bool) → ((s : ℕ) → T (S s) → T (committed l s)) → laid first S (opening l) l ≡ p .image → Exactly-before l S
   only-such S sub q = (
     λ s c sd wr. to-T (exactly S q s (from-T (committed l s) c) (from-T (wrote (events l s)) wr) ∙ from-T (Before l s) sd),
     λ s ss sd wr.
@@ -167,8 +167,5 @@ module _ (K : Kind) (first n : ℕ) (p : Office) (l : Log) (i : Inv K first n p 
         (exactly S q s (from-T (committed l s) (sub s ss)) (from-T (wrote (events l s)) wr) ∙ not-before (side l s) (from-T (After l s) sd)),
   )
 
-  image-law : Image-law first l (p .image)
+  pub image-law : Image-law first l (p .image)
   image-law S sub = (only-such S sub, gives-image S)
-
-  pub round-laws : Image-law first l (p .image) × Serial-law first l (p .live)
-  round-laws = (image-law, serial-law)

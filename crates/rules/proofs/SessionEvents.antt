@@ -7,9 +7,10 @@ use Prim.Native.Nat.{ℕ, _<_}
 use native.Mathlib.Omega.{arith}
 use Rattle.std.specs.declared.option.Option.{Option}
 use Rattle.std.specs.declared.option.Option.the-variants.{None, Some}
+use Rattle.std.specs.Options.{isSome, valueOr}
 use Rattle.tables.specs.Tables.{Entry, Table, entry}
 use Rattle.modes.specs.Kind.{Kind}
-use Rattle.rules.specs.Numbers.{some?, or-else, changed}
+use Rattle.rules.specs.Numbers.{changed}
 use Rattle.rules.specs.Office.{Text, Session, Office}
 use Rattle.rules.specs.Rules.{with-sessions, with-session, after-leave}
 use Rattle.rules.specs.History.{SessionEvent, claims, reads, writes, commits, leaves, nothing, by, Record, Log, events}
@@ -101,9 +102,9 @@ module _ (K : Kind) (first n : ℕ) (o : Office) (l : Log) (t : Table) (k : ℕ)
       (λ r. tt)
 
   pub inv-read : (e m : ℕ) → x .mode e ≡ Some m → K .reads m ≡ true
-      → Inv K first n o (record { event = by k (reads e (or-else (x .text e) (entry (o .live) e .text))); live = t } ∷ l)
+      → Inv K first n o (record { event = by k (reads e (valueOr (x .text e) (entry (o .live) e .text))); live = t } ∷ l)
   inv-read e m h rd =
-      let z : Text = or-else (x .text e) (entry (o .live) e .text) in
+      let z : Text = valueOr (x .text e) (entry (o .live) e .text) in
       let w = live-status K first n o l i k x q in
       subst (λ f. Inv K first n (with-sessions o f) (record { event = by k (reads e z); live = t } ∷ l)) (changed-id (o .sessions) k (Some x) q)
       (inv-by K first n o l t k x (reads e z) (Some x) i q refl (
@@ -116,7 +117,7 @@ module _ (K : Kind) (first n : ℕ) (o : Office) (l : Log) (t : Table) (k : ℕ)
           wrote-is = w .1 .wrote-is;
           writer = w .1 .writer;
           reader = λ j p. elim (same? j e) [ inl c ↦ (m, subst (λ i. x .mode i ≡ Some m) (sym (c .1)) h, rd) | inr c ↦ w .1 .reader j (rw (c .0) at p) ];
-          reads-right = (ap (λ y. or-else y (entry (o .live) e .text)) (sym (w .1 .text-is e)), w .1 .reads-right);
+          reads-right = (ap (λ y. valueOr y (entry (o .live) e .text)) (sym (w .1 .text-is e)), w .1 .reads-right);
         },
       )
       (apart-fewer K o (with-session o k (Some x)) (changed-holds o k (Some x) (λ j b p. session-mode o k j b x q p)) (i .apart))
@@ -134,7 +135,7 @@ module _ (K : Kind) (first n : ℕ) (o : Office) (l : Log) (t : Table) (k : ℕ)
           holds-any-is = w .1 .holds-any-is;
           inside = w .1 .inside;
           text-is = λ j. elim (same? j e) [ inl c ↦ rw (c .0) | inr c ↦ rw (c .0) (w .1 .text-is j) ];
-          wrote-is = sym (any-yes n (λ j. some? (changed (x .text) e (Some z) j)) e (w .1 .inside e m h .0) (ap some? (changed-same (x .text) e (Some z))));
+          wrote-is = sym (any-yes n (λ j. isSome (changed (x .text) e (Some z) j)) e (w .1 .inside e m h .0) (ap isSome (changed-same (x .text) e (Some z))));
           writer = λ j u p. elim (same? j e) [ inl c ↦ (m, subst (λ i. x .mode i ≡ Some m) (sym (c .1)) h, wr) | inr c ↦ w .1 .writer j u (rw (c .0) at p) ];
           reader = w .1 .reader;
           reads-right = w .1 .reads-right;

@@ -6,7 +6,8 @@ use Prim.Native.Nat.{ℕ}
 use lib.Dec.{eqb, T, eqb→eq, eqb-refl}
 use Rattle.std.specs.declared.option.Option.{Option}
 use Rattle.std.specs.declared.option.Option.the-variants.{None, Some}
-use Rattle.rules.specs.Numbers.{some?, or-else, maybe, changed}
+use Rattle.std.specs.Options.{isSome, valueOr}
+use Rattle.rules.specs.Numbers.{maybe, changed}
 
 pub to-T : {b : Bool} → b ≡ true → T b
 to-T e = subst T (sym e) tt
@@ -90,16 +91,16 @@ changed-id f k v e = fun-ext (at-changed (λ j y. y ≡ f j) f k v (sym e) (λ j
 
 -- ── a value that may be there ──
 
-pub is-there : {A : Type 0} (y : Option A) (d : A) → some? y ≡ true → y ≡ Some (or-else y d)
+pub is-there : {A : Type 0} (y : Option A) (d : A) → isSome y ≡ true → y ≡ Some (valueOr y d)
 is-there None d q = absurd (false≢true q)
 is-there (Some x) d q = refl
 
 -- nothing is there and not there
 pub some-none : {A : Type 0} {P : Type 0} {a : A} {x : Option A} → x ≡ Some a → x ≡ None → P
-some-none {A} p q = absurd (true≢false (sym (ap some? p) ∙ ap some? q))
+some-none {A} p q = absurd (true≢false (sym (ap isSome p) ∙ ap isSome q))
 
 pub same-value : {A : Type 0} {a b : A} {x : Option A} → x ≡ Some a → x ≡ Some b → a ≡ b
-same-value {A} {a} {b} p q = ap (λ y. or-else y a) (sym p ∙ q)
+same-value {A} {a} {b} p q = ap (λ y. valueOr y a) (sym p ∙ q)
 
 pub none-else : {A : Type 0} (w : Option A) → ((t : A) → w ≡ Some t → ⊥) → w ≡ None
 none-else None f = refl

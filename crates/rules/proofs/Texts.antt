@@ -6,8 +6,8 @@ use mathlib.Core.List.{List, [], _∷_}
 use Prim.Native.Nat.{ℕ}
 use lib.Dec.{eqb}
 use Rattle.std.specs.declared.option.Option.the-variants.{None}
+use Rattle.std.specs.Options.{valueOr}
 use Rattle.tables.specs.Tables.{Entry}
-use Rattle.rules.specs.Numbers.{or-else}
 use Rattle.rules.specs.History.{SessionEvent, claims, reads, writes, commits, leaves}
 use Rattle.rules.specs.Writing.{last-write, wrote}
 use Rattle.rules.specs.Laying.{Reads-right}
@@ -28,7 +28,7 @@ pub reads-same : (f g : ℕ → Entry) (vs : List SessionEvent) → ((e : ℕ) �
 reads-same f g [] h r = tt
 reads-same f g (claims j ∷ vs) h r = reads-same f g vs h r
 reads-same f g (reads j t ∷ vs) h r = (
-  ap (λ z. or-else (last-write vs j) z) (sym (h j (ap (λ b. b || has-read vs j) (eqb-self j)))) ∙ r .0,
+  ap (λ z. valueOr (last-write vs j) z) (sym (h j (ap (λ b. b || has-read vs j) (eqb-self j)))) ∙ r .0,
   reads-same f g vs (λ e q. h e (or-right (eqb e j) (has-read vs e) q)) (r .1),
 )
 reads-same f g (writes j t ∷ vs) h r = reads-same f g vs h r

@@ -54,22 +54,34 @@ Run K live image (m ∷ h) o =
 
 -- ── events ──
 
--- what a session did: a claim granted; a read with the text it found; a write; its end by a commit, or without one
+-- what a session did
 pub data SessionEvent : Type 0 where
+  -- it was granted a claim of an entry
   claims : ℕ → SessionEvent
+  -- it read an entry, and found this text
   reads : ℕ → Text → SessionEvent
+  -- it wrote this text to an entry
   writes : ℕ → Text → SessionEvent
+  -- it committed
   commits : SessionEvent
+  -- it ended without a commit
   leaves : SessionEvent
 
--- what happened: an event of session s, by s v; of the round: works k made k copies
+-- what happened
 pub data Event : Type 0 where
+  -- nothing of holds, tables or the round
   nothing : Event
+  -- the session of this number did this
   by : ℕ → SessionEvent → Event
+  -- a round was opened
   opens : Event
+  -- this entry was copied
   copies : ℕ → Event
+  -- so many entries were copied, in next's order
   works : ℕ → Event
+  -- the round was closed
   closes : Event
+  -- the round was dropped
   drops : Event
 
 -- an event, unless the answer is a refusal

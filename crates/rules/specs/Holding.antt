@@ -4,7 +4,24 @@ use mathlib.Core.List.{List, [], _∷_}
 use Prim.Native.Nat.{ℕ, suc, max}
 use lib.Dec.{eqb}
 use Rattle.rules.specs.Numbers.{any-below}
-use Rattle.rules.specs.History.{SessionEvent, claims, reads, writes, commits, leaves, Event, nothing, by, opens, copies, works, closes, drops, Log, events}
+use Rattle.rules.specs.History.{
+  SessionEvent,
+  claims,
+  reads,
+  writes,
+  commits,
+  leaves,
+  Event,
+  nothing,
+  by,
+  opens,
+  copies,
+  works,
+  closes,
+  drops,
+  Log,
+  events,
+}
 
 -- of a session's events: it was granted a claim of entry e, and has not ended
 abbrev pub holds : List SessionEvent → ℕ → Bool

@@ -1,13 +1,14 @@
 -- Laying the writes of sessions on a table, and carrying sessions out whole.
 use mathlib.Core.Path.{_≡_}
-use mathlib.Core.Bool.{Bool, true, false, cond}
+use mathlib.Core.Bool.{Bool, cond}
 use mathlib.Core.List.{List, [], _∷_}
 use Prim.Native.Nat.{ℕ, suc, _+_}
 use lib.Dec.{T}
 use Rattle.std.specs.declared.option.Option.{Option}
 use Rattle.std.specs.declared.option.Option.the-variants.{None, Some}
+use Rattle.std.specs.Options.{valueOr}
 use Rattle.tables.specs.Tables.{Entry, of, Table, entry}
-use Rattle.rules.specs.Numbers.{or-else, maybe}
+use Rattle.rules.specs.Numbers.{maybe}
 use Rattle.rules.specs.Office.{Text}
 use Rattle.rules.specs.Rules.{each}
 use Rattle.rules.specs.History.{SessionEvent, claims, reads, writes, commits, leaves, Log, events}
@@ -38,22 +39,18 @@ laid first S t (r ∷ l) =
 abbrev pub Reads-right : (ℕ → Entry) → List SessionEvent → Type 0
 Reads-right f [] = Unit {0}
 Reads-right f (claims e ∷ vs) = Reads-right f vs
-Reads-right f (reads e t ∷ vs) = (or-else (last-write vs e) (f e .text) ≡ t) × Reads-right f vs
+Reads-right f (reads e t ∷ vs) = (valueOr (last-write vs e) (f e .text) ≡ t) × Reads-right f vs
 Reads-right f (writes e t ∷ vs) = Reads-right f vs
 Reads-right f (commits ∷ vs) = Reads-right f vs
 Reads-right f (leaves ∷ vs) = Reads-right f vs
-
--- P, if the test fails
-abbrev pub unless : Bool → Type 0 → Type 0
-unless true P = Unit {0}
-unless false P = P
 
 -- those sessions of S that committed since the open, carried out whole on t in order of commit: each read finds what it was
 -- answered in the table that the sessions before it left
 abbrev pub Carried-right : ℕ → (ℕ → Bool) → Table → Log → Type 0
 Carried-right first S t [] = Unit {0}
 Carried-right first S t (r ∷ l) =
-    unless
+    cond
     (is-open (r .event))
+    (Unit {0})
     (maybe (committer (r .event)) (Carried-right first S t l) (λ s.
     (T (S s) → Reads-right (entry (laid first S t l)) (events l s)) × Carried-right first S t l))

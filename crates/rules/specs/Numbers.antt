@@ -1,20 +1,11 @@
--- Small words: a value that may be there, a function changed at one number, tests of the numbers below a bound.
+-- Small words: a number that may be there, a function changed at one number, tests of the numbers below a bound.
 use mathlib.Core.Bool.{Bool, true, false, cond, _||_}
 use mathlib.Core.List.{List, [], _∷_}
 use Prim.Native.Nat.{ℕ, zero, suc, _+_}
 use lib.Dec.{eqb}
 use Rattle.std.specs.declared.option.Option.{Option}
 use Rattle.std.specs.declared.option.Option.the-variants.{None, Some}
-
--- a value is there
-abbrev pub some? : {A : Type 0} → Option A → Bool
-some? None = false
-some? (Some a) = true
-
--- the value, or else the other one
-abbrev pub or-else : {A : Type 0} → Option A → A → A
-or-else None d = d
-or-else (Some a) d = a
+use Rattle.std.specs.Options.{orOther}
 
 -- f of the number that is there, or else a
 abbrev pub maybe {ℓ} : {A : Type ℓ} → Option ℕ → A → (ℕ → A) → A
@@ -43,7 +34,7 @@ count-below (suc n) p = one-if (p n) + count-below n p
 -- the lowest number below n that passes p
 abbrev pub lowest : ℕ → (ℕ → Bool) → Option ℕ
 lowest zero p = None
-lowest (suc n) p = maybe (lowest n p) (cond (p n) (Some n) None) Some
+lowest (suc n) p = orOther (lowest n p) (cond (p n) (Some n) None)
 
 -- the first of a list whose test passes
 abbrev pub first-of : {A : Type 0} → List (Bool × A) → Option A

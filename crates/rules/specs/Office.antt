@@ -1,14 +1,15 @@
 -- The office: its two tables, its sessions and its round; the calls and their answers.
-use mathlib.Core.Bool.{Bool, true, false, cond, not, _&&_}
+use mathlib.Core.Bool.{Bool, true, false, not, _&&_}
 use mathlib.Core.List.{List, [], _∷_}
 use Prim.Native.Nat.{ℕ, suc, max}
 use lib.ListN.{length}
 use lib.Dec.{eqb}
 use Rattle.std.specs.declared.option.Option.{Option}
-use Rattle.std.specs.declared.option.Option.the-variants.{None, Some}
+use Rattle.std.specs.declared.option.Option.the-variants.{None}
+use Rattle.std.specs.Options.{isSome, valueOr}
 use Rattle.tables.specs.Tables.{Table}
 use Rattle.tables.specs.declared.refusal.Refusal.{Refusal}
-use Rattle.rules.specs.Numbers.{some?, or-else, any-below, count-below}
+use Rattle.rules.specs.Numbers.{any-below, count-below}
 
 -- the bytes of a text
 abbrev pub Text : Type 0
@@ -81,7 +82,7 @@ entries o = length (o .live)
 
 -- the session of a number; where none is live, one that holds nothing
 abbrev pub session : Office → ℕ → Session
-session o s = or-else (o .sessions s) new-session
+session o s = valueOr (o .sessions s) new-session
 
 -- the mode in which session s holds entry e, if it does
 abbrev pub mode-at : Office → ℕ → ℕ → Option ℕ
@@ -89,15 +90,15 @@ mode-at o s e = session o s .mode e
 
 -- some session holds entry e
 abbrev pub is-held : Office → ℕ → Bool
-is-held o e = any-below (o .next-session) (λ s. some? (mode-at o s e))
+is-held o e = any-below (o .next-session) (λ s. isSome (mode-at o s e))
 
 -- how many entries other than e session s holds
 abbrev pub others-held : Office → ℕ → ℕ → ℕ
-others-held o s e = count-below (entries o) (λ j. not (eqb j e) && some? (mode-at o s j))
+others-held o s e = count-below (entries o) (λ j. not (eqb j e) && isSome (mode-at o s j))
 
 -- how many sessions are live
 abbrev pub live-count : Office → ℕ
-live-count o = count-below (o .next-session) (λ s. some? (o .sessions s))
+live-count o = count-below (o .next-session) (λ s. isSome (o .sessions s))
 
 -- how many entries are uncopied
 abbrev pub uncopied : Office → ℕ
@@ -105,24 +106,34 @@ uncopied o = count-below (entries o) (λ e. not (o .copied e))
 
 -- ── calls and answers ──
 
--- session, entry, mode: claim s e m; session, entry, length of the buffer: read s e room; copy e; work k
+-- the calls, with numbers of sessions s, of entries e and of modes m
 pub data Call : Type 0 where
   begin : Call
+  -- claim s e m
   claim : ℕ → ℕ → ℕ → Call
+  -- read s e, with the length of the buffer
   read : ℕ → ℕ → ℕ → Call
+  -- write s e, with the text
   write : ℕ → ℕ → Text → Call
+  -- commit s
   commit : ℕ → Call
+  -- leave s
   leave : ℕ → Call
   open-round : Call
+  -- copy e
   copy : ℕ → Call
+  -- work, with the most copies it may make
   work : ℕ → Call
   close-round : Call
   drop-round : Call
 
--- a refusal; done; the number of a session begun; the text of a read; the copies of a work, and the entries left uncopied
+-- the answers
 pub data Answer : Type 0 where
   refused : Refusal → Answer
   done : Answer
+  -- the number of the session begun
   number : ℕ → Answer
+  -- the text that a read found
   found : Text → Answer
+  -- the copies that a work made, and the entries left uncopied
   counts : ℕ → ℕ → Answer

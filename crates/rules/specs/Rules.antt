@@ -9,6 +9,7 @@ use Rattle.std.specs.declared.option.Option.{Option}
 use Rattle.std.specs.declared.option.Option.the-variants.{None, Some}
 use Rattle.std.specs.declared.result.Result.{Result}
 use Rattle.std.specs.declared.result.Result.the-variants.{Ok, Err}
+use Rattle.std.specs.Options.{isSome, valueOr, mapped}
 use Rattle.tables.specs.Tables.{Entry, of, Table, entry}
 use Rattle.tables.specs.declared.refusal.Refusal.{Refusal}
 use Rattle.tables.specs.declared.refusal.Refusal.the-variants.{
@@ -33,7 +34,7 @@ use Rattle.tables.specs.declared.refusal.Refusal.the-variants.{
   Uncopied,
 }
 use Rattle.modes.specs.Kind.{Kind}
-use Rattle.rules.specs.Numbers.{some?, or-else, maybe, changed, any-below, lowest, first-of}
+use Rattle.rules.specs.Numbers.{maybe, changed, any-below, lowest, first-of}
 use Rattle.rules.specs.Office.{
   Text,
   Side,
@@ -89,7 +90,7 @@ conflicts K o s e w = any-below (o .next-session) (λ k. not (eqb k s) && holds-
 
 -- what a read of entry e by session s finds: the text that it wrote there, or else the live table's
 abbrev pub reading : Office → ℕ → ℕ → Text
-reading o s e = or-else (session o s .text e) (entry (o .live) e .text)
+reading o s e = valueOr (session o s .text e) (entry (o .live) e .text)
 
 -- ── next ──
 
@@ -114,7 +115,7 @@ declines K o begin =
     ∷ (ltb 4_000_000_000 (o .next-session), NumbersSpent)
     ∷ []
 declines K o (claim s e m) =
-    (not (some? (o .sessions s)), NoSession)
+    (not (isSome (o .sessions s)), NoSession)
     ∷ (not (ltb e (entries o)), NoEntry)
     ∷ (not (ltb m (K .modes)), NoMode)
     ∷ (leb 8 (others-held o s e), HoldsFull)
@@ -122,19 +123,19 @@ declines K o (claim s e m) =
     ∷ (o .round && (is-after (session o s .side) && not (o .copied e)), Paused)
     ∷ []
 declines K o (read s e room) =
-    (not (some? (o .sessions s)), NoSession)
+    (not (isSome (o .sessions s)), NoSession)
     ∷ (not (ltb e (entries o)), NoEntry)
     ∷ (not (holds-mode o s e (K .reads)), NotReading)
     ∷ (ltb room (length (reading o s e)), ShortBuffer)
     ∷ []
 declines K o (write s e t) =
-    (not (some? (o .sessions s)), NoSession)
+    (not (isSome (o .sessions s)), NoSession)
     ∷ (not (ltb e (entries o)), NoEntry)
     ∷ (not (holds-mode o s e (K .writes)), NotWriting)
     ∷ (ltb 96 (length t), LongText)
     ∷ []
-declines K o (commit s) = (not (some? (o .sessions s)), NoSession) ∷ []
-declines K o (leave s) = (not (some? (o .sessions s)), NoSession) ∷ []
+declines K o (commit s) = (not (isSome (o .sessions s)), NoSession) ∷ []
+declines K o (leave s) = (not (isSome (o .sessions s)), NoSession) ∷ []
 declines K o open-round =
     (o .round, RoundOpen)
     ∷ (not (eqb (length (o .image)) (entries o)), CountsDiffer)
@@ -228,7 +229,7 @@ each f t = each-from 0 f t
 
 -- session s wrote to an entry
 abbrev pub has-text : Office → ℕ → Bool
-has-text o s = any-below (entries o) (λ e. some? (session o s .text e))
+has-text o s = any-below (entries o) (λ e. isSome (session o s .text e))
 
 -- a commit: the texts written are put, the hand is spent if there is one, and the session ends
 abbrev pub after-commit : Office → ℕ → Office
@@ -246,10 +247,8 @@ after-commit o s =
 -- ── what a round's call leaves ──
 
 -- a session at an open: Before if it holds one of the n entries, else without a side
-abbrev pub opened-session : ℕ → Option Session → Option Session
-opened-session n None = None
-opened-session n (Some x) =
-    Some (record { side = cond (any-below n (λ e. some? (x .mode e))) before neither; mode = x .mode; text = x .text })
+abbrev pub opened-session : ℕ → Session → Session
+opened-session n x = record { side = cond (any-below n (λ e. isSome (x .mode e))) before neither; mode = x .mode; text = x .text }
 
 -- an open: all entries are uncopied
 abbrev pub after-open : Office → Office
@@ -257,17 +256,16 @@ after-open o =
     record {
       live = o .live;
       image = o .image;
-      sessions = λ s. opened-session (entries o) (o .sessions s);
+      sessions = λ s. mapped (opened-session (entries o)) (o .sessions s);
       next-session = o .next-session;
       next-hand = o .next-hand;
       round = true;
       copied = λ _. false;
     }
 
--- a session without a side
-abbrev pub sideless : Option Session → Option Session
-sideless None = None
-sideless (Some x) = Some (record { side = neither; mode = x .mode; text = x .text })
+-- a session without its side
+abbrev pub sideless : Session → Session
+sideless x = record { side = neither; mode = x .mode; text = x .text }
 
 -- a close or a drop: the round ends, and the image keeps what it got
 abbrev pub after-round : Office → Office
@@ -275,7 +273,7 @@ after-round o =
     record {
       live = o .live;
       image = o .image;
-      sessions = λ s. sideless (o .sessions s);
+      sessions = λ s. mapped sideless (o .sessions s);
       next-session = o .next-session;
       next-hand = o .next-hand;
       round = false;

@@ -3,9 +3,25 @@ use mathlib.Core.Bool.{Bool, cond}
 use mathlib.Core.List.{[], _∷_}
 use Prim.Native.Nat.{ℕ}
 use lib.Dec.{eqb}
-use Rattle.rules.specs.Office.{Side, neither, before, after, is-before, is-after}
+use Rattle.rules.specs.Office.{Side, neither, before, is-before, is-after}
 use Rattle.rules.specs.Rules.{first-side}
-use Rattle.rules.specs.History.{claims, reads, writes, commits, leaves, Event, nothing, by, opens, copies, works, closes, drops, Log, events}
+use Rattle.rules.specs.History.{
+  claims,
+  reads,
+  writes,
+  commits,
+  leaves,
+  Event,
+  nothing,
+  by,
+  opens,
+  copies,
+  works,
+  closes,
+  drops,
+  Log,
+  events,
+}
 use Rattle.rules.specs.Holding.{holds-any}
 use Rattle.rules.specs.Copying.{copied}
 

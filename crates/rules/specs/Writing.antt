@@ -1,14 +1,31 @@
 -- What sessions wrote, and which committed, as told.
-use mathlib.Core.Bool.{Bool, true, false, cond, not, _&&_, _||_}
+use mathlib.Core.Bool.{Bool, true, false, cond, not, _||_, _&&_}
 use mathlib.Core.List.{List, [], _∷_}
 use Prim.Native.Nat.{ℕ, _+_}
 use lib.Dec.{eqb}
 use Rattle.std.specs.declared.option.Option.{Option}
 use Rattle.std.specs.declared.option.Option.the-variants.{None, Some}
 use Rattle.tables.specs.Tables.{Table}
-use Rattle.rules.specs.Numbers.{one-if, maybe}
+use Rattle.rules.specs.Numbers.{maybe, one-if}
 use Rattle.rules.specs.Office.{Text}
-use Rattle.rules.specs.History.{SessionEvent, claims, reads, writes, commits, leaves, Event, nothing, by, opens, copies, works, closes, drops, Log, events}
+use Rattle.rules.specs.History.{
+  SessionEvent,
+  claims,
+  reads,
+  writes,
+  commits,
+  leaves,
+  Event,
+  nothing,
+  by,
+  opens,
+  copies,
+  works,
+  closes,
+  drops,
+  Log,
+  events,
+}
 
 -- ── of a session's events ──
 

@@ -9,19 +9,16 @@
 // the opening table, and the sessions could have been carried out one after another, the Before ones first.
 
 ghost use Rattle.rules.specs.Examples.{All-right, examples};
-ghost use Rattle.rules.specs.Round.{All-images, All-opened, All-serial, Every-list-runs, Stays-lawful};
+ghost use Rattle.rules.specs.Round.{Each-call-extends, Every-list-runs, Rounds-lawful, Tables-lawful};
 
-// The laws of a round, at each accepted close of every run: the image law, the serial law, and that the round
-// had been opened.
-pub fn round_laws()
-    ensures image { λ _. ⌜ All-images ⌝ }
-    ensures serial { λ _. ⌜ All-serial ⌝ }
-    ensures opened { λ _. ⌜ All-opened ⌝ }
+// At each accepted close of every run the round was open, and the image law and the serial law hold of it.
+pub fn rounds_lawful()
+    ensures { λ _. ⌜ Rounds-lawful ⌝ }
 {}
 
 // In every run the live table stays lawful, and the image too, if it was.
-pub fn tables_stay_lawful()
-    ensures { λ _. ⌜ Stays-lawful ⌝ }
+pub fn tables_lawful()
+    ensures { λ _. ⌜ Tables-lawful ⌝ }
 {}
 
 // Every list of calls has a run.
@@ -29,7 +26,12 @@ pub fn every_list_runs()
     ensures { λ _. ⌜ Every-list-runs ⌝ }
 {}
 
+// A call that keeps to its rule makes each run before it one call longer, and the law holds of the longer run.
+pub fn each_call_extends()
+    ensures { λ _. ⌜ Each-call-extends ⌝ }
+{}
+
 // The worked examples are as the rules say.
-pub fn examples_hold()
+pub fn examples_right()
     ensures { λ _. ⌜ All-right examples ⌝ }
 {}

@@ -12,14 +12,49 @@ use Rattle.tables.specs.declared.refusal.Refusal.{Refusal}
 use Rattle.tables.specs.declared.refusal.Refusal.the-variants.{Ended}
 use Rattle.modes.specs.Kind.{Kind}
 use Rattle.rules.specs.Numbers.{first-of}
-use Rattle.rules.specs.Office.{Text, is-before, Office, greatest-hand, entries, session, mode-at, Call, begin, claim, read, write, commit, leave, open-round, copy, work, close-round, drop-round, Answer, refused, done}
+use Rattle.rules.specs.Office.{
+  Text,
+  is-before,
+  Office,
+  greatest-hand,
+  entries,
+  session,
+  mode-at,
+  Call,
+  begin,
+  claim,
+  read,
+  write,
+  commit,
+  leave,
+  open-round,
+  copy,
+  work,
+  close-round,
+  drop-round,
+  Answer,
+  refused,
+  done,
+}
 use Rattle.rules.specs.Rules.{wanted, declines, after-claim, after-leave, perform, decided, step}
 use Rattle.rules.specs.History.{History, Run}
-use Rattle.rules.specs.Round.{Stays-lawful}
+use Rattle.rules.specs.Round.{Tables-lawful}
 use Rattle.rules.proofs.Below.{count-nothing}
 use Rattle.rules.proofs.Entries.{greatest-lawful}
 use Rattle.rules.proofs.Declined.{none-fit, is-live, below-if, at-most-if}
-use Rattle.rules.proofs.Bounds.{Bounded, short-none, short-write, bounded-begin, bounded-changed, bounded-leave, bounded-commit, bounded-open, bounded-end, bounded-copy, bounded-work}
+use Rattle.rules.proofs.Bounds.{
+  Bounded,
+  short-none,
+  short-write,
+  bounded-begin,
+  bounded-changed,
+  bounded-leave,
+  bounded-commit,
+  bounded-open,
+  bounded-end,
+  bounded-copy,
+  bounded-work,
+}
 
 -- ── every call ──
 
@@ -60,7 +95,7 @@ module _ (K : Kind) (P : Type 0) (o : Office) (f : Bounded P o) where
   on-other c g (Some r) = f
   on-other c g None = g
 
-  bounded-step : (c : Call) → Bounded P (step K o c .1)
+  pub bounded-step : (c : Call) → Bounded P (step K o c .1)
   bounded-step begin = on-begin (first-of (declines K o begin)) refl
   bounded-step (claim s e m) = on-claim s e m (first-of (declines K o (claim s e m))) refl
   bounded-step (read s e room) = on-other (read s e room) f (first-of (declines K o (read s e room)))
@@ -89,5 +124,5 @@ bounded-run K live image a [] o r =
 bounded-run K live image a (m ∷ h) o r =
     subst (λ (z : Answer × Office). Bounded (Lawful image) (z .1)) (sym (r .2)) (bounded-step K (Lawful image) (r .0) (bounded-run K live image a h (r .0) (r .1)) (m .call))
 
-pub stays-lawful : Stays-lawful
-stays-lawful K live image a h o r = let b = bounded-run K live image a h o r in (b .lawful, b .lawful-image)
+pub tables-lawful : Tables-lawful
+tables-lawful K live image a h o r = let b = bounded-run K live image a h o r in (b .lawful, b .lawful-image)

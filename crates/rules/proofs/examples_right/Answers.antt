@@ -1,7 +1,7 @@
 -- Each example computes.
 use mathlib.Core.Path.{refl}
 use Rattle.rules.specs.Examples.{Right, eight-holds, sixteen-sessions, reserve-beside, before-uncopied, before-copied, after-copied, after-uncopied, whole-round, dropped-round, session-refusals, round-refusals}
-use Rattle.rules.proofs.examples_hold.Needs as need
+use Rattle.rules.proofs.examples_right.Needs as need
 
 eight : Right eight-holds
 eight = (refl, refl, refl)
