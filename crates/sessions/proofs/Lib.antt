@@ -4,3 +4,7 @@ pub mod Steps
 pub mod Places
 pub mod Begins
 pub mod Leaves
+pub mod Sound
+pub mod HoldPlaces
+pub mod WriteRules
+pub mod ClaimRules

@@ -10,8 +10,10 @@ use Rattle.rules.specs.Numbers.{some?, maybe}
 use Rattle.keyed.specs.Keyed.{is-key, position, distinct, all-under, any-taken, every}
 use Rattle.sessions.specs.declared.hold.Hold.{Hold}
 use Rattle.sessions.specs.declared.session.Side.{Side}
-use Rattle.sessions.specs.declared.session.Side.the-variants.{Neither, Before}
+use Rattle.sessions.specs.declared.session.Side.the-variants.{Neither, Before, After}
 use Rattle.sessions.specs.declared.session.Session.{Session}
+use Rattle.sessions.specs.declared.verdict.Verdict.{Verdict}
+use Rattle.sessions.specs.declared.verdict.Verdict.the-variants.{Grant, Pause, End}
 
 -- ── keys ──
 
@@ -49,6 +51,34 @@ blank-hold = record { taken = false; entry = 0; mode = 0; wrote = false; text = 
 abbrev pub is-written : Hold → Bool
 is-written h = h .taken && h .wrote
 
+-- the place of the hold of entry e, or else the first free one
+abbrev pub hold-place : List Hold → ℕ → Option ℕ
+hold-place l e = maybe (position (λ h. is-key (hold-key h) e) l) (position (λ h. not (some? (hold-key h))) l) Some
+
+-- a hold, granted for entry e in a mode: the text that was written to that entry stays
+abbrev pub granted-hold : Hold → ℕ → ℕ → Hold
+granted-hold h e m =
+    record {
+      taken = true;
+      entry = e;
+      mode = m;
+      wrote = is-key (hold-key h) e && h .wrote;
+      text = h .text;
+      len = h .len;
+    }
+
+-- a hold with the text s written to its entry
+abbrev pub written-hold : Hold → List ℕ → Hold
+written-hold h s =
+    record {
+      taken = h .taken;
+      entry = h .entry;
+      mode = h .mode;
+      wrote = true;
+      text = s ++ drop (length s) (replicate 96 0);
+      len = length s;
+    }
+
 -- ── sessions ──
 
 -- what stands past the end of an array of sessions
@@ -66,3 +96,17 @@ begun-session k = record { live = true; number = k; side = Neither; holds = repl
 -- a session ended
 abbrev pub ended-session : Session → Session
 ended-session x = record { live = false; number = x .number; side = x .side; holds = x .holds }
+
+-- a session with another hold k, and a side
+abbrev pub with-hold : Session → ℕ → Hold → Side → Session
+with-hold x k h side = record { live = x .live; number = x .number; side = side; holds = set (x .holds) k h }
+
+-- ── a claim in a round ──
+
+-- a round's verdict on a claim of a copied or an uncopied entry by a session of a side: granted with a side, paused, or the
+-- session's end; without a round, the session keeps its side
+abbrev pub verdict-of : Bool → Side → Bool → Verdict
+verdict-of false side c = Grant side
+verdict-of true Neither c = Grant (cond c After Before)
+verdict-of true Before c = cond c End (Grant Before)
+verdict-of true After c = cond c (Grant After) Pause

@@ -1,22 +1,25 @@
 -- The office that a session table and two tables are.
+use mathlib.Core.Bool.{Bool, false, cond, not, _&&_}
 use mathlib.Core.Path.{_≡_}
-use mathlib.Core.Bool.{cond, false}
 use Prim.Native.Nat.{ℕ}
+use lib.Dec.{eqb}
 use lib.ListN.{length, getD, take}
 use Rattle.std.specs.declared.option.Option.{Option}
 use Rattle.std.specs.declared.option.Option.the-variants.{None, Some}
 use Rattle.tables.specs.Tables.{Table}
 use Rattle.modes.specs.Kind.{Kind}
-use Rattle.rules.specs.Office.{Text, neither, before, after, Office, Call, Answer}
-use Rattle.rules.specs.Office.{Side as Office-side, Session as Office-session}
+use Rattle.rules.specs.Numbers.{maybe}
+use Rattle.rules.specs.Office.{Text, Office, Call, Answer, neither, before, after}
+use Rattle.rules.specs.Office.{Session as Office-session}
+use Rattle.rules.specs.Office.{Side as Office-side}
 use Rattle.rules.specs.Rules.{Step}
 use Rattle.keyed.specs.Keyed.{find}
+use Rattle.sessions.specs.Sessions.{hold-key, session-key}
 use Rattle.sessions.specs.declared.hold.Hold.{Hold}
+use Rattle.sessions.specs.declared.session.Session.{Session}
 use Rattle.sessions.specs.declared.session.Side.{Side}
 use Rattle.sessions.specs.declared.session.Side.the-variants.{Neither, Before, After}
-use Rattle.sessions.specs.declared.session.Session.{Session}
 use Rattle.sessions.specs.declared.table.SessionTable.{SessionTable}
-use Rattle.sessions.specs.Sessions.{hold-key, session-key}
 
 -- a side
 abbrev pub side-of : Side → Office-side
@@ -77,3 +80,7 @@ empty-office first live image =
       round = false;
       copied = λ _. false;
     }
+
+-- a session x of number k is another than s, and holds entry e in a mode that passes p
+abbrev pub conflicting : (ℕ → Bool) → ℕ → ℕ → ℕ → Session → Bool
+conflicting p s e k x = not (eqb k s) && maybe (mode-of (find hold-key (x .holds) e)) false p

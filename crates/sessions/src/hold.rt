@@ -1,5 +1,7 @@
 ghost use mathlib.Core.Path.{_≡_};
-ghost use Rattle.sessions.specs.Sessions.{hold-key, blank-hold, is-written};
+ghost use Prim.Native.Nat.{_≤_};
+ghost use lib.ListN.{length};
+ghost use Rattle.sessions.specs.Sessions.{hold-key, blank-hold, is-written, written-hold};
 use keyed::Keyed;
 use tables::LONGEST_TEXT;
 
@@ -51,5 +53,20 @@ impl Hold {
         ensures { λ r. ⌜ r ≡ is-written (now (self .entry)) ⌝ }
     {
         self.taken && self.wrote
+    }
+
+    // The hold with this text written to its entry.
+    pub(crate) fn written(self, text: &[u8]) -> Hold
+        requires { ⌜ length (now text) ≤ 96 ⌝ }
+        ensures { λ r. ⌜ r ≡ written-hold self (now (text .entry)) ⌝ }
+    {
+        let mut bytes = [0; LONGEST_TEXT];
+        bytes[0..text.len()].copy_from_slice(text);
+        Hold {
+            wrote: true,
+            text: bytes,
+            len: text.len(),
+            ..self
+        }
     }
 }

@@ -6,9 +6,12 @@
 // and each call answers and leaves exactly what the rule of that call says.
 
 pub mod calls;
+pub mod claims;
 pub mod hold;
 pub mod session;
 pub mod table;
+pub mod texts;
+pub mod verdict;
 
 pub use hold::Hold;
 pub use hold::HoldKeyed;
@@ -16,3 +19,4 @@ pub use session::Session;
 pub use session::SessionKeyed;
 pub use session::Side;
 pub use table::SessionTable;
+pub use verdict::Verdict;

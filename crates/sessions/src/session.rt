@@ -1,7 +1,15 @@
 ghost use mathlib.Core.Path.{_≡_};
-ghost use Rattle.sessions.specs.Sessions.{session-key, free-session, begun-session, ended-session};
+ghost use Prim.Native.Nat.{_<_, _≤_};
+ghost use lib.ListN.{length, getD};
+ghost use Rattle.std.specs.declared.option.Option.the-variants.{Some, None};
+ghost use Rattle.keyed.specs.Keyed.{find};
+ghost use Rattle.sessions.specs.Sessions.{session-key, hold-key, no-hold, free-session, begun-session, ended-session, hold-place, granted-hold, written-hold, with-hold};
+ghost use Rattle.sessions.specs.View.{mode-of};
 use super::hold::Hold;
+use super::hold::HoldKeyed;
 use keyed::Keyed;
+use keyed::place;
+use keyed::vacancy;
 
 // The most entries that a session holds.
 pub const MOST_HOLDS: usize = 8;
@@ -69,5 +77,48 @@ impl Session {
         ensures { λ _. ⌜ now (self .exit) ≡ ended-session (now (self .entry)) ⌝ }
     {
         self.live = false;
+    }
+
+    // The mode that it holds the entry in.
+    pub(crate) fn mode_of(&self, e: usize) -> Option<u8>
+        ensures { λ r. ⌜ r ≡ mode-of (find hold-key (now (self .entry) .holds) e) ⌝ }
+    {
+        match place(&self.holds, e) {
+            Some(k) => Some(self.holds[k].mode),
+            None => None,
+        }
+    }
+
+    // Where its hold of the entry stands, or else can stand.
+    pub(crate) fn hold_place(&self, e: usize) -> Option<usize>
+        ensures { λ r. ⌜ elim r [ Some k ↦ (k < 8) × (hold-place (now (self .entry) .holds) e ≡ Some k) | None ↦ hold-place (now (self .entry) .holds) e ≡ None ] ⌝ }
+    {
+        match place(&self.holds, e) {
+            Some(k) => Some(k),
+            None => vacancy(&self.holds),
+        }
+    }
+
+    // Holds the entry in the mode, in hold k, which is its own or a free one, and takes the side. A text that
+    // it wrote to the entry stays.
+    pub(crate) fn grant(&mut self, k: usize, e: usize, mode: u8, side: Side)
+        requires { ⌜ k < 8 ⌝ }
+        ensures { λ _. ⌜ now (self .exit) ≡ with-hold (now (self .entry)) k (granted-hold (getD (now (self .entry) .holds) k no-hold) e mode) side ⌝ }
+    {
+        let mut hold = self.holds[k];
+        hold.wrote = hold.is_under(e) && hold.wrote;
+        hold.taken = true;
+        hold.entry = e;
+        hold.mode = mode;
+        self.holds[k] = hold;
+        self.side = side;
+    }
+
+    // Keeps a text with hold k.
+    pub(crate) fn keep(&mut self, k: usize, text: &[u8])
+        requires { ⌜ k < 8 ⌝ ∗ ⌜ length (now text) ≤ 96 ⌝ }
+        ensures { λ _. ⌜ now (self .exit) ≡ with-hold (now (self .entry)) k (written-hold (getD (now (self .entry) .holds) k no-hold) (now (text .entry))) (now (self .entry) .side) ⌝ }
+    {
+        self.holds[k] = self.holds[k].written(text);
     }
 }

@@ -1,0 +1,13 @@
+use mathlib.Core.Bool.{false}
+use mathlib.Core.Path.{_≡_}
+use Prim.Native.Nat.{ℕ, _<_}
+use lib.ListN.{getD}
+use Rattle.rules.specs.Numbers.{maybe}
+use Rattle.sessions.specs.Sessions.{session-key, no-session}
+use Rattle.sessions.specs.View.{conflicting}
+use Rattle.sessions.proofs.claims.conflicts.Given as given
+
+abbrev pub Inv-loop-i : given.InvT-loop-i
+Inv-loop-i g l =
+    (j : ℕ) → j < l .i
+    → maybe (session-key (getD (l .sessions) j no-session)) false (λ k. conflicting (g .K·Modes .kind .conflict (l .wanted)) (l .s) (l .e) k (getD (l .sessions) j no-session)) ≡ false
