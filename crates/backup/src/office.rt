@@ -1,7 +1,7 @@
 ghost use mathlib.Core.Path.{_≡_};
-ghost use lib.ListN.{length};
 ghost use Rattle.rules.specs.Office.{new-office};
 ghost use Rattle.sessions.specs.View.{view};
+ghost use Rattle.backup.specs.Serving.{Kept};
 use super::hands::highest_hand;
 use super::serves::Serves;
 use modes::Modes;
@@ -22,7 +22,7 @@ impl<L: Store, I: Store, K: Modes> Office<L, I, K> {
     // A new office, with no session and no round.
     pub fn new(live: L, image: I, kinds: K) -> Office<L, I, K>
         ensures state { λ r. ⌜ view (r .sessions) (L·Readable .table (r .live)) (I·Readable .table (r .image)) ≡ new-office (L·Readable .table live) (I·Readable .table image) ⌝ }
-        ensures kept { λ r. ⌜ length (L·Readable .table (r .live)) ≡ r .sessions .entries ⌝ }
+        ensures kept { λ r. ⌜ Kept (r .sessions .entries) (view (r .sessions) (L·Readable .table (r .live)) (I·Readable .table (r .image))) ⌝ }
     {
         let first = highest_hand(&live) + 1;
         let Ok(sessions) = SessionTable::new(live.count(), first) else {
@@ -42,10 +42,18 @@ pub impl<L: Store, I: Store, K: Modes> Serves for Office<L, I, K> as OfficeServe
 
     ghost state = { λ o. view (o .sessions) (L·Readable .table (o .live)) (I·Readable .table (o .image)) };
 
-    ghost kept = { λ o. length (L·Readable .table (o .live)) ≡ o .sessions .entries };
+    ghost kept = { λ o. Kept (o .sessions .entries) (view (o .sessions) (L·Readable .table (o .live)) (I·Readable .table (o .image))) };
 
     fn begin(&mut self) -> Result<usize, Refusal> {
         self.sessions.begin()
+    }
+
+    fn claim(&mut self, session: usize, entry: usize, mode: u8) -> Result<(), Refusal> {
+        self.sessions.claim(&self.kinds, session, entry, mode)
+    }
+
+    fn write(&mut self, session: usize, entry: usize, text: &[u8]) -> Result<(), Refusal> {
+        self.sessions.write(&self.kinds, session, entry, text)
     }
 
     fn leave(&mut self, session: usize) -> Result<(), Refusal> {

@@ -6,9 +6,10 @@ use mathlib.Core.List.{List, [], _∷_}
 use Prim.Native.Nat.{ℕ, zero, suc, _+_, _≤_, _<_}
 use native.Mathlib.Omega.{arith}
 use lib.ListN.{length, getD, set}
+use Rattle.std.specs.Options.{isSome}
 use Rattle.std.specs.declared.option.Option.{Option}
 use Rattle.std.specs.declared.option.Option.the-variants.{None, Some}
-use Rattle.rules.specs.Numbers.{some?, maybe, changed, count-below, one-if}
+use Rattle.rules.specs.Numbers.{maybe, changed, count-below, one-if}
 use Rattle.rules.proofs.Tests.{bool?, not-both, and-true, same?, eqb-self, some-none, eqb-apart}
 use Rattle.rules.proofs.Below.{count-same}
 use Rattle.keyed.specs.Keyed.{is-key, position, find, absent, distinct, under, all-under, count-taken}
@@ -40,7 +41,7 @@ count-at (suc n) k f g l z h =
     ]
 
 pub count-find : {X : Type 0} (key : X → Option ℕ) (p : ℕ → Bool) (n : ℕ) (l : List X) → distinct key l ≡ true → all-under key n l ≡ true
-    → count-below n (λ s. p s && some? (find key l s)) ≡ count-taken key p l
+    → count-below n (λ s. p s && isSome (find key l s)) ≡ count-taken key p l
 count-find key p n [] a u = none-pass n
   where
     and-false : (b : Bool) → (b && false) ≡ false
@@ -63,20 +64,20 @@ count-find key p n (x ∷ xs) a u =
     and-true-right true = refl
     and-true-right false = refl
 
-    go : count-below n (λ s. p s && some? (find key xs s)) ≡ count-taken key p xs → (o : Option ℕ) → key x ≡ o → absent key o xs ≡ true → under n o ≡ true
-        → count-below n (λ s. p s && some? (find key (x ∷ xs) s)) ≡ counted p (key x) + count-taken key p xs
+    go : count-below n (λ s. p s && isSome (find key xs s)) ≡ count-taken key p xs → (o : Option ℕ) → key x ≡ o → absent key o xs ≡ true → under n o ≡ true
+        → count-below n (λ s. p s && isSome (find key (x ∷ xs) s)) ≡ counted p (key x) + count-taken key p xs
     go ih None kx b v =
         let h : counted p (key x) ≡ 0 = ap (counted p) kx in
-        let e = count-same n (λ s. p s && some? (find key (x ∷ xs) s)) (λ s. p s && some? (find key xs s)) (λ k l. ap (λ o. p k && some? (cond (is-key o k) (Some x) (find key xs k))) kx) in
+        let e = count-same n (λ s. p s && isSome (find key (x ∷ xs) s)) (λ s. p s && isSome (find key xs s)) (λ k l. ap (λ o. p k && isSome (cond (is-key o k) (Some x) (find key xs k))) kx) in
         omega (arith, h, e, ih)
     go ih (Some k) kx b v =
         let h : counted p (key x) ≡ one-if (p k) = ap (counted p) kx in
         let gone : find key xs k ≡ None = absent-missing key xs refl b in
-        let at-k : one-if (p k && some? (find key (x ∷ xs) k)) ≡ one-if (p k) =
-        ap (λ c. one-if (p k && some? (cond c (Some x) (find key xs k)))) (is-key-of k kx ∙ eqb-self k) ∙ ap one-if (and-true-right (p k)) in
+        let at-k : one-if (p k && isSome (find key (x ∷ xs) k)) ≡ one-if (p k) =
+        ap (λ c. one-if (p k && isSome (cond c (Some x) (find key xs k)))) (is-key-of k kx ∙ eqb-self k) ∙ ap one-if (and-true-right (p k)) in
         let e =
-        count-at n k (λ s. p s && some? (find key (x ∷ xs) s)) (λ s. p s && some? (find key xs s)) (lt-of v) (ap (λ r. p k && some? r) gone ∙ and-false (p k))
-        (λ j m. ap (λ c. p j && some? (cond c (Some x) (find key xs j))) (is-key-of j kx ∙ eqb-apart m)) in
+        count-at n k (λ s. p s && isSome (find key (x ∷ xs) s)) (λ s. p s && isSome (find key xs s)) (lt-of v) (ap (λ r. p k && isSome r) gone ∙ and-false (p k))
+        (λ j m. ap (λ c. p j && isSome (cond c (Some x) (find key xs j))) (is-key-of j kx ∙ eqb-apart m)) in
         omega (arith, h, at-k, e, ih)
 
 counted-one : (p : ℕ → Bool) (o : Option ℕ) → counted p o ≤ 1
@@ -101,20 +102,20 @@ count-room key p q (x ∷ xs) i z e =
       | inr w ↦ omega (arith, counted-one p (key x), count-room key p q xs (w .1 .0) z (w .1 .2))
     ]
 
-pub count-full : {X : Type 0} (key : X → Option ℕ) (p : ℕ → Bool) (l : List X) → position (λ x. not (some? (key x))) l ≡ None
+pub count-full : {X : Type 0} (key : X → Option ℕ) (p : ℕ → Bool) (l : List X) → position (λ x. not (isSome (key x))) l ≡ None
     → ((k : ℕ) → p k ≡ false → find key l k ≡ None) → count-taken key p l ≡ length l
 count-full key p [] e h = refl
-count-full {X} key p (x ∷ xs) e h = go (count-full key p xs) (key x) refl (position (λ x. not (some? (key x))) xs) refl e
+count-full {X} key p (x ∷ xs) e h = go (count-full key p xs) (key x) refl (position (λ x. not (isSome (key x))) xs) refl e
   where
     free : X → Bool
-    free x = not (some? (key x))
+    free x = not (isSome (key x))
 
     back : (k : ℕ) → p k ≡ false → find key xs k ≡ None
     back k f = find-behind key x xs k (h k f) .1
 
-    go : (position (λ x. not (some? (key x))) xs ≡ None → ((k : ℕ) → p k ≡ false → find key xs k ≡ None) → count-taken key p xs ≡ length xs)
-        → (o : Option ℕ) → key x ≡ o → (r : Option ℕ) → position (λ x. not (some? (key x))) xs ≡ r
-        → cond (not (some? (key x))) (Some 0) (one-on (position (λ x. not (some? (key x))) xs)) ≡ None → counted p (key x) + count-taken key p xs ≡ suc (length xs)
+    go : (position (λ x. not (isSome (key x))) xs ≡ None → ((k : ℕ) → p k ≡ false → find key xs k ≡ None) → count-taken key p xs ≡ length xs)
+        → (o : Option ℕ) → key x ≡ o → (r : Option ℕ) → position (λ x. not (isSome (key x))) xs ≡ r
+        → cond (not (isSome (key x))) (Some 0) (one-on (position (λ x. not (isSome (key x))) xs)) ≡ None → counted p (key x) + count-taken key p xs ≡ suc (length xs)
     go ih None kx r s f = some-none {x = Some 0} refl (sym (rw kx) ∙ f)
     go ih (Some k) kx (Some j) s f = some-none {x = Some (suc j)} refl (sym (rw (kx, s)) ∙ f)
     go ih (Some k) kx None s f =

@@ -6,9 +6,9 @@ use mathlib.Core.List.{List, [], _∷_}
 use Prim.Native.Nat.{ℕ}
 use lib.ListN.{set}
 use lib.Dec.{eqb}
+use Rattle.std.specs.Options.{isSome}
 use Rattle.std.specs.declared.option.Option.{Option}
 use Rattle.std.specs.declared.option.Option.the-variants.{None, Some}
-use Rattle.rules.specs.Numbers.{some?}
 use Rattle.rules.proofs.Tests.{not-both, not-true, and-true, same?, eqb-self, some-none}
 use Rattle.keyed.specs.Keyed.{is-key, position, find, absent, distinct}
 use Rattle.keyed.proofs.Positions.{position-split}
@@ -17,12 +17,12 @@ use Rattle.keyed.proofs.Finding.{not-there, and-both, is-key-true, find-behind
 pub absent-ext : {X : Type 0} (key : X → Option ℕ) (o : Option ℕ) (xs ys : List X) → ((t : ℕ) → o ≡ Some t → find key ys t ≡ find key xs t)
     → absent key o xs ≡ true → absent key o ys ≡ true
 absent-ext key None xs ys f a = refl
-absent-ext key (Some k) xs ys f a = ap (λ r. not (some? r)) (f k refl) ∙ a
+absent-ext key (Some k) xs ys f a = ap (λ r. not (isSome r)) (f k refl) ∙ a
 
 pub absent-less : {X : Type 0} (key : X → Option ℕ) (o : Option ℕ) (xs ys : List X) → ((t : ℕ) → find key xs t ≡ None → find key ys t ≡ None)
     → absent key o xs ≡ true → absent key o ys ≡ true
 absent-less key None xs ys f a = refl
-absent-less key (Some k) xs ys f a = ap (λ r. not (some? r)) (f k (not-there (find key xs k) (not-true (some? (find key xs k)) a)))
+absent-less key (Some k) xs ys f a = ap (λ r. not (isSome r)) (f k (not-there (find key xs k) (not-true (isSome (find key xs k)) a)))
 
 other-number : (o : Option ℕ) (s t : ℕ) → is-key o s ≡ false → o ≡ Some t → eqb t s ≡ false
 other-number o s t h e =
@@ -66,16 +66,16 @@ distinct-cleared {X} key (x ∷ xs) s i y ky e a =
           (distinct-cleared key xs s (q .1 .0) y ky (q .1 .2) (aa .1)))
     ]
 
-pub distinct-added : {X : Type 0} (key : X → Option ℕ) (l : List X) (s i : ℕ) (y : X) → key y ≡ Some s → position (λ x. not (some? (key x))) l ≡ Some i
+pub distinct-added : {X : Type 0} (key : X → Option ℕ) (l : List X) (s i : ℕ) (y : X) → key y ≡ Some s → position (λ x. not (isSome (key x))) l ≡ Some i
     → find key l s ≡ None → distinct key l ≡ true → distinct key (set l i y) ≡ true
 distinct-added key [] s i y ky e m a = some-none e refl
 distinct-added {X} key (x ∷ xs) s i y ky e m a =
     let P : ℕ → Type 0 = λ j. distinct key (set (x ∷ xs) j y) ≡ true in
     let aa = and-true (absent key (key x) xs) (distinct key xs) a in
     let mm = find-behind key x xs s m in
-    elim (position-split (λ x. not (some? (key x))) x xs i e) [
+    elim (position-split (λ x. not (isSome (key x))) x xs i e) [
       | inl q ↦
-          subst P (sym (q .1)) (and-both (ap (λ o. absent key o xs) ky ∙ ap (λ r. not (some? r)) (mm .1)) (aa .1))
+          subst P (sym (q .1)) (and-both (ap (λ o. absent key o xs) ky ∙ ap (λ r. not (isSome r)) (mm .1)) (aa .1))
       | inr q ↦
           subst P (sym (q .1 .1))
           (and-both

@@ -6,15 +6,16 @@ use mathlib.Core.List.{List, [], _∷_}
 use Prim.Native.Nat.{ℕ, suc}
 use lib.ListN.{getD, set}
 use lib.Dec.{eqb}
+use Rattle.std.specs.Options.{isSome}
 use Rattle.std.specs.declared.option.Option.{Option}
 use Rattle.std.specs.declared.option.Option.the-variants.{None, Some}
-use Rattle.rules.specs.Numbers.{some?, changed}
+use Rattle.rules.specs.Numbers.{changed}
 use Rattle.rules.proofs.Tests.{not-both, not-true, and-true, same?, some-none}
 use Rattle.keyed.specs.Keyed.{is-key, position, find, absent, distinct, under}
 use Rattle.keyed.proofs.Positions.{one-on, position-split, position-at}
 
 -- a value that is not there
-pub not-there : {A : Type 0} (x : Option A) → some? x ≡ false → x ≡ None
+pub not-there : {A : Type 0} (x : Option A) → isSome x ≡ false → x ≡ None
 not-there None e = refl
 not-there (Some a) e = absurd (true≢false e)
 
@@ -28,8 +29,8 @@ is-key-true (Some k) s e = elim (same? s k) [ inl q ↦ ap Some (sym (q .1)) | i
 pub is-key-of : {o : Option ℕ} {k : ℕ} (s : ℕ) → o ≡ Some k → is-key o s ≡ eqb s k
 is-key-of s e = ap (λ o. is-key o s) e
 
-pub free-none : (o : Option ℕ) → not (some? o) ≡ true → o ≡ None
-free-none o e = not-there o (not-true (some? o) e)
+pub free-none : (o : Option ℕ) → not (isSome o) ≡ true → o ≡ None
+free-none o e = not-there o (not-true (isSome o) e)
 
 pub cond-twice : {A : Type 0} (b : Bool) (u v w : A) → cond b u w ≡ cond b u (cond b v w)
 cond-twice true u v w = refl
@@ -95,7 +96,7 @@ find-changed {X} key (x ∷ xs) s i y ky e t =
     ]
 
 pub absent-missing : {X : Type 0} (key : X → Option ℕ) {o : Option ℕ} {s : ℕ} (xs : List X) → o ≡ Some s → absent key o xs ≡ true → find key xs s ≡ None
-absent-missing key {o} {s} xs e a = not-there (find key xs s) (not-true (some? (find key xs s)) (subst (λ p. absent key p xs ≡ true) e a))
+absent-missing key {o} {s} xs e a = not-there (find key xs s) (not-true (isSome (find key xs s)) (subst (λ p. absent key p xs ≡ true) e a))
 
 -- the place under s becomes free
 pub find-cleared : {X : Type 0} (key : X → Option ℕ) (l : List X) (s i : ℕ) (y : X) → key y ≡ None → position (λ x. is-key (key x) s) l ≡ Some i
@@ -124,13 +125,13 @@ find-cleared {X} key (x ∷ xs) s i y ky e a t =
     ]
 
 -- a free place is taken under s
-pub find-added : {X : Type 0} (key : X → Option ℕ) (l : List X) (s i : ℕ) (y : X) → key y ≡ Some s → position (λ x. not (some? (key x))) l ≡ Some i
+pub find-added : {X : Type 0} (key : X → Option ℕ) (l : List X) (s i : ℕ) (y : X) → key y ≡ Some s → position (λ x. not (isSome (key x))) l ≡ Some i
     → find key l s ≡ None → (t : ℕ) → find key (set l i y) t ≡ changed (find key l) s (Some y) t
 find-added key [] s i y ky e m t = some-none e refl
 find-added {X} key (x ∷ xs) s i y ky e m t =
     let P : ℕ → Type 0 = λ j. find key (set (x ∷ xs) j y) t ≡ changed (find key (x ∷ xs)) s (Some y) t in
     let mm = find-behind key x xs s m in
-    elim (position-split (λ x. not (some? (key x))) x xs i e) [
+    elim (position-split (λ x. not (isSome (key x))) x xs i e) [
       | inl q ↦
           subst P (sym (q .1))
           (ap (λ b. cond b (Some y) (find key xs t)) (is-key-of t ky)

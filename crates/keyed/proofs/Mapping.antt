@@ -3,9 +3,9 @@ use mathlib.Core.Path.{_≡_, refl, sym, ap, _∙_}
 use mathlib.Core.Bool.{Bool, true, false, cond, not, _&&_}
 use mathlib.Core.List.{List, [], _∷_, map}
 use Prim.Native.Nat.{ℕ, _+_}
+use Rattle.std.specs.Options.{isSome}
 use Rattle.std.specs.declared.option.Option.{Option}
 use Rattle.std.specs.declared.option.Option.the-variants.{None, Some}
-use Rattle.rules.specs.Numbers.{some?}
 use Rattle.keyed.specs.Keyed.{is-key, find, absent, distinct, under, all-under, count-taken}
 use Rattle.keyed.proofs.Counting.{counted}
 
@@ -26,9 +26,9 @@ find-map key f (x ∷ xs) s h =
 
 pub absent-map : {X : Type 0} (key : X → Option ℕ) (f : X → X) (o : Option ℕ) (l : List X) → ((x : X) → key (f x) ≡ key x) → absent key o (map f l) ≡ absent key o l
 absent-map key f None l h = refl
-absent-map {X} key f (Some k) l h = ap (λ r. not (some? r)) (find-map key f l k h) ∙ go (find key l k)
+absent-map {X} key f (Some k) l h = ap (λ r. not (isSome r)) (find-map key f l k h) ∙ go (find key l k)
   where
-    go : (r : Option X) → not (some? (mapped f r)) ≡ not (some? r)
+    go : (r : Option X) → not (isSome (mapped f r)) ≡ not (isSome r)
     go None = refl
     go (Some x) = refl
 

@@ -4,9 +4,10 @@ use mathlib.Core.Logic.{inl, inr}
 use mathlib.Core.Bool.{Bool, true, false, cond, not, _||_, true≢false, false≢true}
 use mathlib.Core.List.{List, [], _∷_}
 use Prim.Native.Nat.{ℕ}
+use Rattle.std.specs.Options.{isSome}
 use Rattle.std.specs.declared.option.Option.{Option}
 use Rattle.std.specs.declared.option.Option.the-variants.{None, Some}
-use Rattle.rules.specs.Numbers.{some?, maybe, any-below}
+use Rattle.rules.specs.Numbers.{maybe, any-below}
 use Rattle.rules.proofs.Tests.{bool?, not-both, bool-ext, or-true, or-right, and-true, eqb-self, some-none, same-value}
 use Rattle.rules.proofs.Below.{any-yes, any-find}
 use Rattle.keyed.specs.Keyed.{is-key, position, find, absent, distinct, under, all-under, any-taken}
@@ -84,10 +85,10 @@ any-taken-false key q (x ∷ xs) e =
     let w = position-behind (λ x. passes (key x) (λ k. q k x)) x xs e in
     ap (λ b. b || any-taken key q xs) (w .0) ∙ any-taken-false key q xs (w .1)
 
-pub taken-free : (o : Option ℕ) → not (some? o) ≡ true → passes o (λ k. true) ≡ false
+pub taken-free : (o : Option ℕ) → not (isSome o) ≡ true → passes o (λ k. true) ≡ false
 taken-free None e = refl
 taken-free (Some k) e = absurd (false≢true e)
 
-pub taken-held : (o : Option ℕ) → not (some? o) ≡ false → passes o (λ k. true) ≡ true
+pub taken-held : (o : Option ℕ) → not (isSome o) ≡ false → passes o (λ k. true) ≡ true
 taken-held None e = absurd (true≢false e)
 taken-held (Some k) e = refl

@@ -3,9 +3,10 @@ use mathlib.Core.Bool.{Bool, true, false, cond, not, _&&_, _||_}
 use mathlib.Core.List.{List, [], _∷_}
 use Prim.Native.Nat.{ℕ, suc, _+_}
 use lib.Dec.{eqb, ltb}
+use Rattle.std.specs.Options.{isSome}
 use Rattle.std.specs.declared.option.Option.{Option}
 use Rattle.std.specs.declared.option.Option.the-variants.{None, Some}
-use Rattle.rules.specs.Numbers.{some?, maybe, one-if}
+use Rattle.rules.specs.Numbers.{maybe, one-if}
 
 -- ── finding ──
 
@@ -37,7 +38,7 @@ count-taken key p (x ∷ xs) = maybe (key x) 0 (λ k. one-if (p k)) + count-take
 
 -- nothing is taken under the key, if it is one
 abbrev pub absent : {X : Type 0} → (X → Option ℕ) → Option ℕ → List X → Bool
-absent key o xs = maybe o true (λ k. not (some? (find key xs k)))
+absent key o xs = maybe o true (λ k. not (isSome (find key xs k)))
 
 -- no number stands twice
 abbrev pub distinct : {X : Type 0} → (X → Option ℕ) → List X → Bool

@@ -8,9 +8,9 @@ ghost use mathlib.Core.Path.{_≡_};
 ghost use mathlib.Core.Bool.{true, not};
 ghost use Prim.Native.Nat.{ℕ, _<_};
 ghost use lib.ListN.{length};
+ghost use Rattle.std.specs.Options.{isSome};
 ghost use Rattle.std.specs.declared.option.Option.{Option as Maybe};
 ghost use Rattle.std.specs.declared.option.Option.the-variants.{Some, None};
-ghost use Rattle.rules.specs.Numbers.{some?};
 ghost use Rattle.keyed.specs.Keyed.{is-key, position, any-taken};
 
 // A place that is free, or taken under a number.
@@ -24,7 +24,7 @@ pub trait Keyed {
 
     // Whether the place is free.
     fn is_free(&self) -> bool
-        ensures { λ r. ⌜ r ≡ not (some? (key (now (self .entry)))) ⌝ };
+        ensures { λ r. ⌜ r ≡ not (isSome (key (now (self .entry)))) ⌝ };
 }
 
 // Where the first place stands that is taken under this number.
@@ -41,7 +41,7 @@ pub fn place<T: Keyed>(places: &[T], k: usize) -> Option<usize>
 
 // Where the first free place stands.
 pub fn vacancy<T: Keyed>(places: &[T]) -> Option<usize>
-    ensures { λ r. ⌜ elim r [ Some i ↦ (i < length (now (places .entry))) × (position (λ x. not (some? (T·Keyed .key x))) (now (places .entry)) ≡ Some i) | None ↦ position (λ x. not (some? (T·Keyed .key x))) (now (places .entry)) ≡ None ] ⌝ }
+    ensures { λ r. ⌜ elim r [ Some i ↦ (i < length (now (places .entry))) × (position (λ x. not (isSome (T·Keyed .key x))) (now (places .entry)) ≡ Some i) | None ↦ position (λ x. not (isSome (T·Keyed .key x))) (now (places .entry)) ≡ None ] ⌝ }
 {
     for i in 0..places.len() {
         if places[i].is_free() {

@@ -6,6 +6,7 @@ use native.Mathlib.Numerals.{add-one}
 use native.Mathlib.Omega.{arith}
 use lib.Dec.{leb}
 use lib.ListN.{length, getD, set, replicate}
+use Rattle.std.specs.Options.{isSome}
 use Rattle.std.proofs.shelf.Lists.{length-set}
 use Rattle.std.proofs.shelf.Tests.{le-leb, lt-leb, lt-ltb, le-ltb}
 use Rattle.std.specs.declared.option.Option.the-variants.{None}
@@ -13,7 +14,6 @@ use Rattle.tables.specs.Tables.{Table}
 use Rattle.tables.specs.declared.refusal.Refusal.the-variants.{SessionsFull, NumbersSpent}
 use Rattle.modes.specs.Kind.{Kind}
 use Rattle.rules.proofs.Below.{count-same}
-use Rattle.rules.specs.Numbers.{some?}
 use Rattle.rules.specs.Office.{live-count, begin, refused, number}
 use Rattle.rules.specs.Rules.{Step}
 use Rattle.keyed.proofs.Counting.{counted, count-find, count-room, count-full, count-set}
@@ -32,14 +32,14 @@ use Rattle.sessions.proofs.Steps.{refusing, performing, hit, pass, over}
 
 pub live-taken : {n : ℕ} (d : Parts) (live image : Table) → Kept n d → live-count (seen d live image) ≡ count-taken session-key (λ _. true) (d .sessions)
 live-taken d live image kept =
-    count-same (d .next) (λ s. some? (seen d live image .sessions s)) (λ s. some? (find session-key (d .sessions) s)) (λ k l. some-found (find session-key (d .sessions) k))
+    count-same (d .next) (λ s. isSome (seen d live image .sessions s)) (λ s. isSome (find session-key (d .sessions) s)) (λ k l. some-found (find session-key (d .sessions) k))
     ∙ count-find session-key (λ _. true) (d .next) (d .sessions) (kept .numbers) (kept .given)
 
-free-uncounted : (x : Session) → not (some? (session-key x)) ≡ true → counted (λ _. true) (session-key x) ≡ 0
+free-uncounted : (x : Session) → not (isSome (session-key x)) ≡ true → counted (λ _. true) (session-key x) ≡ 0
 free-uncounted x e = ap (counted (λ _. true)) (free-none (session-key x) e)
 
 -- no place is free
-pub begin-full : {n : ℕ} (K : Kind) (d : Parts) (live image : Table) → Kept n d → position (λ x. not (some? (session-key x))) (d .sessions) ≡ None
+pub begin-full : {n : ℕ} (K : Kind) (d : Parts) (live image : Table) → Kept n d → position (λ x. not (isSome (session-key x))) (d .sessions) ≡ None
     → Step K (seen d live image) begin (refused SessionsFull) (seen d live image)
 begin-full K d live image kept p =
     let t : count-taken session-key (λ _. true) (d .sessions) ≡ length (d .sessions) =
@@ -51,7 +51,7 @@ begin-full K d live image kept p =
 room : {n : ℕ} (d : Parts) (live image : Table) (i : ℕ) → Kept n d → Free d i → leb 16 (live-count (seen d live image)) ≡ false
 room d live image i kept p =
     let t : count-taken session-key (λ _. true) (d .sessions) < length (d .sessions) =
-    count-room session-key (λ _. true) (λ x. not (some? (session-key x))) (d .sessions) i free-uncounted p in
+    count-room session-key (λ _. true) (λ x. not (isSome (session-key x))) (d .sessions) i free-uncounted p in
     let l = live-taken d live image kept in
     let f = kept .places in
     lt-leb 16 (live-count (seen d live image)) (omega (arith, t, l, f))

@@ -6,6 +6,7 @@ use Prim.Native.Nat.{ℕ, _≤_, _<_}
 use native.Mathlib.Omega.{arith}
 use lib.Dec.{eqb, leb}
 use lib.ListN.{length, getD}
+use Rattle.std.specs.Options.{isSome, valueOr}
 use Rattle.std.proofs.shelf.Lists.{length-set}
 use Rattle.std.proofs.shelf.Tests.{le-leb, lt-leb, eqb-true}
 use Rattle.std.specs.declared.option.Option.the-variants.{None, Some}
@@ -14,7 +15,7 @@ use Rattle.tables.specs.declared.refusal.Refusal.the-variants.{NoSession, NoEnt
 use Rattle.modes.specs.Kind.{Kind}
 use Rattle.rules.proofs.Below.{count-same}
 use Rattle.rules.proofs.Tests.{not-false, same?, eqb-self}
-use Rattle.rules.specs.Numbers.{some?, or-else, maybe, changed, one-if}
+use Rattle.rules.specs.Numbers.{maybe, changed, one-if}
 use Rattle.rules.specs.Office.{is-before, is-after, new-session, entries, session, mode-at, others-held, claim, refused, done}
 use Rattle.rules.specs.Rules.{wanted, conflicts, declines, with-session, first-side, after-claim, after-leave, Step}
 use Rattle.keyed.proofs.Counting.{counted, count-find, count-room, count-full}
@@ -48,8 +49,8 @@ others-taken : (d : Parts) (live image : Table) (s i e : ℕ) → i < length (d 
     → others-held (seen d live image) s e ≡ count-taken hold-key (other e) (session-in d i .holds)
 others-taken d live image s i e h kept p =
     let w = sound-in d i h kept in
-    count-same (length live) (λ j. not (eqb j e) && some? (mode-at (seen d live image) s j)) (λ j. not (eqb j e) && some? (find hold-key (session-in d i .holds) j))
-    (λ j l. ap (λ z. not (eqb j e) && some? (z .mode j)) (session-at d live image s i p) ∙ ap (λ b. not (eqb j e) && b) (some-mode (find hold-key (session-in d i .holds) j)))
+    count-same (length live) (λ j. not (eqb j e) && isSome (mode-at (seen d live image) s j)) (λ j. not (eqb j e) && isSome (find hold-key (session-in d i .holds) j))
+    (λ j l. ap (λ z. not (eqb j e) && isSome (z .mode j)) (session-at d live image s i p) ∙ ap (λ b. not (eqb j e) && b) (some-mode (find hold-key (session-in d i .holds) j)))
     ∙ count-find hold-key (other e) (length live) (session-in d i .holds) (w .entries) (w .below)
 
 holds-full : (d : Parts) (live image : Table) (s i e : ℕ) → i < length (d .sessions) → Kept (length live) d → At d s i → hold-place (session-in d i .holds) e ≡ None
@@ -66,7 +67,7 @@ holds-full d live image s i e h kept p q =
 own-uncounted : (e : ℕ) (x : Hold) → is-key (hold-key x) e ≡ true → counted (other e) (hold-key x) ≡ 0
 own-uncounted e x h = ap (counted (other e)) (is-key-true (hold-key x) e h) ∙ ap (λ b. one-if (not b)) (eqb-self e)
 
-free-uncounted : (e : ℕ) (x : Hold) → not (some? (hold-key x)) ≡ true → counted (other e) (hold-key x) ≡ 0
+free-uncounted : (e : ℕ) (x : Hold) → not (isSome (hold-key x)) ≡ true → counted (other e) (hold-key x) ≡ 0
 free-uncounted e x h = ap (counted (other e)) (free-none (hold-key x) h)
 
 holds-room : (d : Parts) (live image : Table) (s i e k : ℕ) → i < length (d .sessions) → Kept (length live) d → At d s i → hold-place (session-in d i .holds) e ≡ Some k
@@ -78,7 +79,7 @@ holds-room d live image s i e k h kept p q =
     let t : count-taken hold-key (other e) l < length l =
     elim (place-cases l e k q) [
       | inl r ↦ count-room hold-key (other e) (λ x. is-key (hold-key x) e) l k (own-uncounted e) r
-      | inr r ↦ count-room hold-key (other e) (λ x. not (some? (hold-key x))) l k (free-uncounted e) (r .1)
+      | inr r ↦ count-room hold-key (other e) (λ x. not (isSome (hold-key x))) l k (free-uncounted e) (r .1)
     ] in
     lt-leb 8 (others-held (seen d live image) s e) (omega (arith, t, o, w))
 
@@ -91,7 +92,7 @@ and-false-right false = refl
 conflicts-taken : {n : ℕ} (K : Kind) (d : Parts) (live image : Table) (s e w : ℕ) → Kept n d
     → conflicts K (seen d live image) s e w ≡ any-taken session-key (conflicting (K .conflict w) s e) (d .sessions)
 conflicts-taken K d live image s e w kept =
-    any-below-taken session-key (λ k q. not (eqb k s) && maybe (or-else (found-session q) new-session .mode e) false (K .conflict w)) (d .next) (d .sessions)
+    any-below-taken session-key (λ k q. not (eqb k s) && maybe (valueOr (found-session q) new-session .mode e) false (K .conflict w)) (d .next) (d .sessions)
     (λ k. and-false-right (not (eqb k s))) (kept .numbers) (kept .given)
 
 -- ── the round's verdict ──

@@ -5,11 +5,12 @@ use mathlib.Core.Logic.{_⊎_, inl, inr}
 use mathlib.Core.Path.{_≡_, refl, sym, ap, _∙_}
 use Prim.Native.Nat.{ℕ}
 use lib.ListN.{getD, set, take}
+use Rattle.std.specs.Options.{isSome}
 use Rattle.std.specs.declared.option.Option.{Option}
 use Rattle.std.specs.declared.option.Option.the-variants.{None, Some}
 use Rattle.tables.specs.Tables.{Table}
 use Rattle.rules.proofs.Tests.{some-none}
-use Rattle.rules.specs.Numbers.{some?, maybe, changed}
+use Rattle.rules.specs.Numbers.{maybe, changed}
 use Rattle.rules.specs.Office.{mode-at}
 use Rattle.rules.specs.Rules.{holds-mode}
 use Rattle.keyed.proofs.Distinct.{distinct-changed, distinct-added}
@@ -41,12 +42,12 @@ first-none None b e = (refl, e)
 first-none (Some j) b e = some-none {x = Some j} refl e
 
 pub place-cases : (l : List Hold) (e k : ℕ) → hold-place l e ≡ Some k
-    → (position (λ h. is-key (hold-key h) e) l ≡ Some k) ⊎ ((position (λ h. is-key (hold-key h) e) l ≡ None) × (position (λ h. not (some? (hold-key h))) l ≡ Some k))
-place-cases l e k = first-some (position (λ h. is-key (hold-key h) e) l) (position (λ h. not (some? (hold-key h))) l) k
+    → (position (λ h. is-key (hold-key h) e) l ≡ Some k) ⊎ ((position (λ h. is-key (hold-key h) e) l ≡ None) × (position (λ h. not (isSome (hold-key h))) l ≡ Some k))
+place-cases l e k = first-some (position (λ h. is-key (hold-key h) e) l) (position (λ h. not (isSome (hold-key h))) l) k
 
 pub place-none : (l : List Hold) (e : ℕ) → hold-place l e ≡ None
-    → (position (λ h. is-key (hold-key h) e) l ≡ None) × (position (λ h. not (some? (hold-key h))) l ≡ None)
-place-none l e = first-none (position (λ h. is-key (hold-key h) e) l) (position (λ h. not (some? (hold-key h))) l)
+    → (position (λ h. is-key (hold-key h) e) l ≡ None) × (position (λ h. not (isSome (hold-key h))) l ≡ None)
+place-none l e = first-none (position (λ h. is-key (hold-key h) e) l) (position (λ h. not (isSome (hold-key h))) l)
 
 -- a hold of e in its place: what is found, no entry twice, and the text that stays
 pub find-granted : (l : List Hold) (e k : ℕ) (y : Hold) → hold-key y ≡ Some e → hold-place l e ≡ Some k
@@ -74,7 +75,7 @@ text-granted l e k w q =
           ∙ sym (ap text-of (find-place hold-key l e k no-hold r))
       | inr r ↦
           ap (λ o. cond (is-key o e && x .wrote) (Some (take (x .len) (x .text))) None)
-          (free-none (hold-key x) (position-at (λ h. not (some? (hold-key h))) l k no-hold (r .1)))
+          (free-none (hold-key x) (position-at (λ h. not (isSome (hold-key h))) l k no-hold (r .1)))
           ∙ sym (ap text-of (find-missing hold-key l e (r .0)))
     ]
 

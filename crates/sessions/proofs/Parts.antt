@@ -4,10 +4,10 @@ use mathlib.Core.List.{List}
 use mathlib.Core.Path.{_≡_, sym, subst}
 use Prim.Native.Nat.{ℕ, _+_, _≤_}
 use lib.ListN.{length, getD, set}
+use Rattle.std.specs.Options.{isSome}
 use Rattle.std.specs.declared.option.Option.the-variants.{None, Some}
 use Rattle.tables.specs.Tables.{Table}
 use Rattle.modes.specs.Kind.{Kind}
-use Rattle.rules.specs.Numbers.{some?}
 use Rattle.rules.specs.Office.{Office, Call, Answer}
 use Rattle.rules.specs.Rules.{Step}
 use Rattle.keyed.specs.Keyed.{is-key, position, find, count-taken, distinct, all-under, every}
@@ -109,7 +109,7 @@ Nowhere d s = position (λ x. is-key (session-key x) s) (d .sessions) ≡ None
 
 -- place i is the first free one
 abbrev pub Free : Parts → ℕ → Type 0
-Free d i = position (λ x. not (some? (session-key x))) (d .sessions) ≡ Some i
+Free d i = position (λ x. not (isSome (session-key x))) (d .sessions) ≡ Some i
 
 -- a session that is given by an equation
 pub step-with : (K : Kind) (d : Parts) (c : Call) (a : Answer) (live image : Table) (i : ℕ) {x y : Session} → y ≡ x

@@ -6,10 +6,11 @@ use native.Mathlib.Numerals.{add-one}
 use native.Mathlib.Omega.{arith}
 use lib.Dec.{eqb}
 use lib.ListN.{set}
+use Rattle.std.specs.Options.{isSome, valueOr}
 use Rattle.std.specs.declared.option.Option.{Option}
 use Rattle.std.specs.declared.option.Option.the-variants.{None, Some}
 use Rattle.tables.specs.Tables.{Table}
-use Rattle.rules.specs.Numbers.{some?, or-else, changed}
+use Rattle.rules.specs.Numbers.{changed}
 use Rattle.rules.specs.Office.{new-session, session}
 use Rattle.rules.specs.Rules.{with-session, after-begin, after-leave}
 use Rattle.keyed.proofs.Finding.{find-place, find-missing, find-changed, find-cleared, find-added}
@@ -22,11 +23,11 @@ use Rattle.sessions.specs.declared.session.Session.{Session}
 use Rattle.sessions.proofs.Ext.{office-ext}
 use Rattle.sessions.proofs.Parts.{Parts, seen, Kept, kept, with-place, begun, session-in, At, Nowhere, Free}
 
-pub some-found : (o : Option Session) → some? (found-session o) ≡ some? o
+pub some-found : (o : Option Session) → isSome (found-session o) ≡ isSome o
 some-found None = refl
 some-found (Some x) = refl
 
-pub some-mode : (o : Option Hold) → some? (mode-of o) ≡ some? o
+pub some-mode : (o : Option Hold) → isSome (mode-of o) ≡ isSome o
 some-mode None = refl
 some-mode (Some x) = refl
 
@@ -67,11 +68,11 @@ pub seen-at : (d : Parts) (live image : Table) (s i : ℕ) → At d s i → seen
 seen-at d live image s i p = ap found-session (find-place session-key (d .sessions) s i no-session p)
 
 pub session-at : (d : Parts) (live image : Table) (s i : ℕ) → At d s i → session (seen d live image) s ≡ session-of (session-in d i)
-session-at d live image s i p = ap (λ q. or-else q new-session) (seen-at d live image s i p)
+session-at d live image s i p = ap (λ q. valueOr q new-session) (seen-at d live image s i p)
 
 -- the test of refusal 1
-pub is-nowhere : (d : Parts) (live image : Table) (s : ℕ) → Nowhere d s → not (some? (seen d live image .sessions s)) ≡ true
-is-nowhere d live image s p = ap (λ o. not (some? (found-session o))) (find-missing session-key (d .sessions) s p)
+pub is-nowhere : (d : Parts) (live image : Table) (s : ℕ) → Nowhere d s → not (isSome (seen d live image .sessions s)) ≡ true
+is-nowhere d live image s p = ap (λ o. not (isSome (found-session o))) (find-missing session-key (d .sessions) s p)
 
-pub is-at : (d : Parts) (live image : Table) (s i : ℕ) → At d s i → not (some? (seen d live image .sessions s)) ≡ false
-is-at d live image s i p = ap (λ o. not (some? o)) (seen-at d live image s i p)
+pub is-at : (d : Parts) (live image : Table) (s i : ℕ) → At d s i → not (isSome (seen d live image .sessions s)) ≡ false
+is-at d live image s i p = ap (λ o. not (isSome o)) (seen-at d live image s i p)

@@ -4,9 +4,10 @@ use mathlib.Core.List.{List, [], _++_}
 use Prim.Native.Nat.{ℕ}
 use lib.ListN.{length, set, drop, replicate}
 use lib.Dec.{leb, eqb}
+use Rattle.std.specs.Options.{isSome}
 use Rattle.std.specs.declared.option.Option.{Option}
 use Rattle.std.specs.declared.option.Option.the-variants.{None, Some}
-use Rattle.rules.specs.Numbers.{some?, maybe}
+use Rattle.rules.specs.Numbers.{maybe}
 use Rattle.keyed.specs.Keyed.{is-key, position, distinct, all-under, any-taken, every}
 use Rattle.sessions.specs.declared.hold.Hold.{Hold}
 use Rattle.sessions.specs.declared.session.Side.{Side}
@@ -53,7 +54,7 @@ is-written h = h .taken && h .wrote
 
 -- the place of the hold of entry e, or else the first free one
 abbrev pub hold-place : List Hold → ℕ → Option ℕ
-hold-place l e = maybe (position (λ h. is-key (hold-key h) e) l) (position (λ h. not (some? (hold-key h))) l) Some
+hold-place l e = maybe (position (λ h. is-key (hold-key h) e) l) (position (λ h. not (isSome (hold-key h))) l) Some
 
 -- a hold, granted for entry e in a mode: the text that was written to that entry stays
 abbrev pub granted-hold : Hold → ℕ → ℕ → Hold

@@ -2,8 +2,8 @@ use Prim.Native.Nat.{ℕ, _<_}
 use mathlib.Core.Path.{_≡_}
 use mathlib.Core.Bool.{false, not}
 use lib.ListN.{getD}
-use Rattle.rules.specs.Numbers.{some?}
+use Rattle.std.specs.Options.{isSome}
 use Rattle.keyed.proofs.vacancy.Given as given
 
 abbrev pub Inv-loop-i : given.InvT-loop-i
-Inv-loop-i g l = (j : ℕ) → j < l .i → (y : _) → y ≡ getD (l .places) j y → not (some? (g .T·Keyed .key y)) ≡ false
+Inv-loop-i g l = (j : ℕ) → j < l .i → (y : _) → y ≡ getD (l .places) j y → not (isSome (g .T·Keyed .key y)) ≡ false
