@@ -8,3 +8,5 @@ pub mod Sound
 pub mod HoldPlaces
 pub mod WriteRules
 pub mod ClaimRules
+pub mod RoundRules
+pub mod CommitRules

@@ -1,3 +1,4 @@
 pub mod Sessions
 pub mod View
 pub mod Answers
+pub mod Commits

@@ -2,17 +2,19 @@
 use mathlib.Core.Bool.{Bool, true, false, cond, not, _&&_}
 use mathlib.Core.List.{List, [], _++_}
 use Prim.Native.Nat.{ℕ}
+use lib.Dec.{eqb, leb}
 use lib.ListN.{length, set, drop, replicate}
-use lib.Dec.{leb, eqb}
 use Rattle.std.specs.Options.{isSome}
 use Rattle.std.specs.declared.option.Option.{Option}
 use Rattle.std.specs.declared.option.Option.the-variants.{None, Some}
+use Rattle.tables.specs.Tables.{entry}
 use Rattle.rules.specs.Numbers.{maybe}
-use Rattle.keyed.specs.Keyed.{is-key, position, distinct, all-under, any-taken, every}
+use Rattle.rules.specs.Office.{number}
+use Rattle.keyed.specs.Keyed.{is-key, position, any-taken, distinct, all-under, every}
 use Rattle.sessions.specs.declared.hold.Hold.{Hold}
+use Rattle.sessions.specs.declared.session.Session.{Session}
 use Rattle.sessions.specs.declared.session.Side.{Side}
 use Rattle.sessions.specs.declared.session.Side.the-variants.{Neither, Before, After}
-use Rattle.sessions.specs.declared.session.Session.{Session}
 use Rattle.sessions.specs.declared.verdict.Verdict.{Verdict}
 use Rattle.sessions.specs.declared.verdict.Verdict.the-variants.{Grant, Pause, End}
 
@@ -102,7 +104,21 @@ ended-session x = record { live = false; number = x .number; side = x .side; hol
 abbrev pub with-hold : Session → ℕ → Hold → Side → Session
 with-hold x k h side = record { live = x .live; number = x .number; side = side; holds = set (x .holds) k h }
 
--- ── a claim in a round ──
+-- ── rounds ──
+
+-- a session when a round opens: Before if it holds an entry
+abbrev pub at-open : Session → Session
+at-open x =
+    record {
+      live = x .live;
+      number = x .number;
+      side = cond (any-taken hold-key (λ k h. true) (x .holds)) Before Neither;
+      holds = x .holds;
+    }
+
+-- a session without a side
+abbrev pub without-side : Session → Session
+without-side x = record { live = x .live; number = x .number; side = Neither; holds = x .holds }
 
 -- a round's verdict on a claim of a copied or an uncopied entry by a session of a side: granted with a side, paused, or the
 -- session's end; without a round, the session keeps its side

@@ -4,6 +4,7 @@ use mathlib.Core.Path.{_≡_}
 use Prim.Native.Nat.{ℕ}
 use lib.Dec.{eqb}
 use lib.ListN.{length, getD, take}
+use Rattle.std.specs.Options.{isSome}
 use Rattle.std.specs.declared.option.Option.{Option}
 use Rattle.std.specs.declared.option.Option.the-variants.{None, Some}
 use Rattle.tables.specs.Tables.{Table}
@@ -13,7 +14,7 @@ use Rattle.rules.specs.Office.{Text, Office, Call, Answer, neither, before, aft
 use Rattle.rules.specs.Office.{Session as Office-session}
 use Rattle.rules.specs.Office.{Side as Office-side}
 use Rattle.rules.specs.Rules.{Step}
-use Rattle.keyed.specs.Keyed.{find}
+use Rattle.keyed.specs.Keyed.{find, any-taken}
 use Rattle.sessions.specs.Sessions.{hold-key, session-key}
 use Rattle.sessions.specs.declared.hold.Hold.{Hold}
 use Rattle.sessions.specs.declared.session.Session.{Session}
@@ -80,6 +81,14 @@ empty-office first live image =
       round = false;
       copied = λ _. false;
     }
+
+-- a session holds entry e
+abbrev pub holds-entry : ℕ → ℕ → Session → Bool
+holds-entry e k x = isSome (mode-of (find hold-key (x .holds) e))
+
+-- entry e is uncopied, and no session holds it
+abbrev pub copyable : SessionTable → ℕ → Bool
+copyable t e = not (getD (t .copied) e false) && not (any-taken session-key (holds-entry e) (t .sessions))
 
 -- a session x of number k is another than s, and holds entry e in a mode that passes p
 abbrev pub conflicting : (ℕ → Bool) → ℕ → ℕ → ℕ → Session → Bool

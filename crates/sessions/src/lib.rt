@@ -7,7 +7,9 @@
 
 pub mod calls;
 pub mod claims;
+pub mod commits;
 pub mod hold;
+pub mod rounds;
 pub mod session;
 pub mod table;
 pub mod texts;

@@ -2,12 +2,15 @@ ghost use mathlib.Core.Path.{_≡_};
 ghost use Prim.Native.Nat.{_<_, _≤_};
 ghost use lib.ListN.{length, getD};
 ghost use Rattle.std.specs.declared.option.Option.the-variants.{Some, None};
+ghost use mathlib.Core.Bool.{false};
+ghost use Rattle.rules.specs.Numbers.{maybe};
 ghost use Rattle.keyed.specs.Keyed.{find};
-ghost use Rattle.sessions.specs.Sessions.{session-key, hold-key, no-hold, free-session, begun-session, ended-session, hold-place, granted-hold, written-hold, with-hold};
-ghost use Rattle.sessions.specs.View.{mode-of};
+ghost use Rattle.sessions.specs.Sessions.{session-key, hold-key, no-hold, free-session, begun-session, ended-session, hold-place, granted-hold, written-hold, with-hold, at-open, without-side};
+ghost use Rattle.sessions.specs.View.{mode-of, holds-entry};
 use super::hold::Hold;
 use super::hold::HoldKeyed;
 use keyed::Keyed;
+use keyed::occupied;
 use keyed::place;
 use keyed::vacancy;
 
@@ -120,5 +123,36 @@ impl Session {
         ensures { λ _. ⌜ now (self .exit) ≡ with-hold (now (self .entry)) k (written-hold (getD (now (self .entry) .holds) k no-hold) (now (text .entry))) (now (self .entry) .side) ⌝ }
     {
         self.holds[k] = self.holds[k].written(text);
+    }
+
+    // Whether a session is here that holds the entry.
+    pub(crate) fn holds_entry(&self, e: usize) -> bool
+        ensures { λ r. ⌜ r ≡ maybe (session-key (now (self .entry))) false (λ k. holds-entry e k (now (self .entry))) ⌝ }
+    {
+        if self.is_free() {
+            return false;
+        }
+        match self.mode_of(e) {
+            Some(_) => true,
+            None => false,
+        }
+    }
+
+    // Takes the side that it has when a round opens.
+    pub(crate) fn take_side(&mut self)
+        ensures { λ _. ⌜ now (self .exit) ≡ at-open (now (self .entry)) ⌝ }
+    {
+        self.side = if occupied(&self.holds) {
+            Side::Before
+        } else {
+            Side::Neither
+        };
+    }
+
+    // Leaves its side.
+    pub(crate) fn leave_side(&mut self)
+        ensures { λ _. ⌜ now (self .exit) ≡ without-side (now (self .entry)) ⌝ }
+    {
+        self.side = Side::Neither;
     }
 }
