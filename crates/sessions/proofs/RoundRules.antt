@@ -6,7 +6,7 @@ use mathlib.Core.Path.{_≡_, refl, sym, ap, subst, _∙_}
 use Prim.Native.Nat.{ℕ, zero, suc, _≤_, _<_}
 use native.Mathlib.Omega.{arith}
 use lib.ListN.{length, getD, set, replicate}
-use Rattle.std.specs.Options.{isSome, valueOr}
+use Rattle.std.specs.Options.{isSome, valueOr, orOther}
 use Rattle.std.proofs.shelf.Lists.{length-set, length-replicate, length-map, getD-set-same, getD-set-other}
 use Rattle.std.proofs.shelf.Tests.{eq-eqb, ne-eqb}
 use Rattle.std.specs.declared.option.Option.{Option}
@@ -56,7 +56,7 @@ seen-opened d live image kept =
     office-ext (seen (opened d (map at-open (d .sessions))) live image) (after-open (seen d live image)) refl refl
     (λ s. ap found-session (find-map session-key at-open (d .sessions) s (λ x. refl)) ∙ go s (find session-key (d .sessions) s) refl) refl refl refl (λ e. unmarked 128 e)
   where
-    go : (s : ℕ) (o : Option Session) → find session-key (d .sessions) s ≡ o → found-session (mapped at-open o) ≡ opened-session (length live) (found-session o)
+    go : (s : ℕ) (o : Option Session) → find session-key (d .sessions) s ≡ o → found-session (mapped at-open o) ≡ mapped (opened-session (length live)) (found-session o)
     go s None e = refl
     go s (Some x) e =
         let g = to-sound (length live) x (every-found (sound-session (length live)) session-key (d .sessions) s x (kept .sound) e) in
@@ -103,7 +103,7 @@ seen-dropped d live image =
     office-ext (seen (dropped d (map without-side (d .sessions))) live image) (after-round (seen d live image)) refl refl
     (λ s. ap found-session (find-map session-key without-side (d .sessions) s (λ x. refl)) ∙ go (find session-key (d .sessions) s)) refl refl refl (λ e. refl)
   where
-    go : (o : Option Session) → found-session (mapped without-side o) ≡ sideless (found-session o)
+    go : (o : Option Session) → found-session (mapped without-side o) ≡ mapped sideless (found-session o)
     go None = refl
     go (Some x) = refl
 
@@ -182,7 +182,7 @@ module _ (K : Kind) (d : Parts) (live image : Table) (e : ℕ) where
 pub lowest-none : (n : ℕ) (p : ℕ → Bool) (i : ℕ) → n ≤ i → ((k : ℕ) → k < i → p k ≡ false) → lowest n p ≡ None
 lowest-none zero p i l f = refl
 lowest-none (suc n) p i l f =
-    ap (λ o. maybe o (cond (p n) (Some n) None) Some) (lowest-none n p i (omega arith) f) ∙ ap (λ b. cond b (Some n) None) (f n (omega arith))
+    ap (λ o. orOther o (cond (p n) (Some n) None)) (lowest-none n p i (omega arith) f) ∙ ap (λ b. cond b (Some n) None) (f n (omega arith))
 
 pub lowest-found : (n : ℕ) (p : ℕ → Bool) (e : ℕ) → e < n → ((k : ℕ) → k < e → p k ≡ false) → p e ≡ true → lowest n p ≡ Some e
 lowest-found zero p e l f h = absurd (omega arith)
@@ -190,14 +190,14 @@ lowest-found (suc n) p e l f h =
     elim (same? e n) [
       | inl q ↦
           let en = q .1 in
-          ap (λ o. maybe o (cond (p n) (Some n) None) Some) (lowest-none n p e (omega arith) f) ∙ ap (λ b. cond b (Some n) None) (ap p (sym en) ∙ h) ∙ ap Some (sym en)
-      | inr q ↦ let ne = q .1 in ap (λ o. maybe o (cond (p n) (Some n) None) Some) (lowest-found n p e (omega arith) f h)
+          ap (λ o. orOther o (cond (p n) (Some n) None)) (lowest-none n p e (omega arith) f) ∙ ap (λ b. cond b (Some n) None) (ap p (sym en) ∙ h) ∙ ap Some (sym en)
+      | inr q ↦ let ne = q .1 in ap (λ o. orOther o (cond (p n) (Some n) None)) (lowest-found n p e (omega arith) f h)
     ]
 
 lowest-same : (n : ℕ) (p q : ℕ → Bool) → ((k : ℕ) → p k ≡ q k) → lowest n p ≡ lowest n q
 lowest-same zero p q f = refl
 lowest-same (suc n) p q f =
-    ap (λ o. maybe o (cond (p n) (Some n) None) Some) (lowest-same n p q f) ∙ ap (λ b. maybe (lowest n q) (cond b (Some n) None) Some) (f n)
+    ap (λ o. orOther o (cond (p n) (Some n) None)) (lowest-same n p q f) ∙ ap (λ b. orOther (lowest n q) (cond b (Some n) None)) (f n)
 
 pub next-copyable : (t : SessionTable) (live image : Table) → length live ≡ t .entries → next-of (view t live image) ≡ lowest (t .entries) (copyable t)
 next-copyable t live image n =
