@@ -5,9 +5,11 @@
 // May use: tables, modes, rules (its definitions), restore, sessions.
 // Main promise: each call answers and leaves exactly what the rule of that call says, on the stores' own tables.
 
+mod commits;
 mod hands;
 pub mod office;
 pub mod serves;
+mod works;
 
 pub use office::Office;
 pub use office::OfficeServes;

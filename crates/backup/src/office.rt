@@ -2,9 +2,12 @@ ghost use mathlib.Core.Path.{_≡_};
 ghost use Rattle.rules.specs.Office.{new-office};
 ghost use Rattle.sessions.specs.View.{view};
 ghost use Rattle.backup.specs.Serving.{Kept};
+use super::commits::put_session;
 use super::hands::highest_hand;
 use super::serves::Serves;
+use super::works::copy_next;
 use modes::Modes;
+use restore::copy_entry;
 use sessions::SessionTable;
 use tables::Readable;
 use tables::Refusal;
@@ -58,5 +61,37 @@ pub impl<L: Store, I: Store, K: Modes> Serves for Office<L, I, K> as OfficeServe
 
     fn leave(&mut self, session: usize) -> Result<(), Refusal> {
         self.sessions.leave(session)
+    }
+
+    fn commit(&mut self, session: usize) -> Result<(), Refusal> {
+        put_session(&mut self.live, &self.sessions, session);
+        self.sessions.end_commit(session)
+    }
+
+    fn open(&mut self) -> Result<(), Refusal> {
+        self.sessions.open_round(self.image.count())
+    }
+
+    fn copy(&mut self, entry: usize) -> Result<(), Refusal> {
+        match self.sessions.mark_copied(entry) {
+            Ok(()) => copy_entry(&self.live, &mut self.image, entry),
+            Err(f) => Err(f),
+        }
+    }
+
+    fn next(&self) -> Result<Option<usize>, Refusal> {
+        self.sessions.next()
+    }
+
+    fn work(&mut self, limit: usize) -> Result<(usize, usize), Refusal> {
+        if !self.sessions.round_is_open() {
+            return Err(Refusal::NoRound);
+        }
+        let made = copy_next(&mut self.sessions, &self.live, &mut self.image, limit);
+        Ok((made, self.sessions.left()))
+    }
+
+    fn drop(&mut self) -> Result<(), Refusal> {
+        self.sessions.drop_round()
     }
 }

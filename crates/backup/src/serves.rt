@@ -1,8 +1,9 @@
 ghost use mathlib.Core.Path.{_≡_};
 ghost use Rattle.modes.specs.Kind.{Kind};
-ghost use Rattle.rules.specs.Office.{Office as State, begin as to-begin, claim as to-claim, write as to-write, leave as to-leave};
-ghost use Rattle.rules.specs.Rules.{Step};
+ghost use Rattle.rules.specs.Office.{Office as State, begin as to-begin, claim as to-claim, write as to-write, commit as to-commit, leave as to-leave, open-round as to-open, copy as to-copy, work as to-work, drop-round as to-drop};
+ghost use Rattle.rules.specs.Rules.{Step, next-answer};
 ghost use Rattle.sessions.specs.Answers.{did, numbered};
+ghost use Rattle.backup.specs.Answers.{counted};
 use tables::Refusal;
 
 // An office: what it means, and what its calls answer and leave. Each call keeps to its rule in an office that is
@@ -32,4 +33,29 @@ pub trait Serves {
     // Ends a session without a commit; refusal 1.
     fn leave(&mut self, session: usize) -> Result<(), Refusal>
         ensures { λ r. ⌜ (kept (now (self .entry)) → Step kind (state (now (self .entry))) (to-leave session) (did r) (state (now (self .exit))) × kept (now (self .exit))) ⌝ };
+
+    // Puts each text that the session wrote into the live store, and ends the session; refusal 1.
+    fn commit(&mut self, session: usize) -> Result<(), Refusal>
+        ensures { λ r. ⌜ (kept (now (self .entry)) → Step kind (state (now (self .entry))) (to-commit session) (did r) (state (now (self .exit))) × kept (now (self .exit))) ⌝ };
+
+    // Opens a round; refusals 14 and 15.
+    fn open(&mut self) -> Result<(), Refusal>
+        ensures { λ r. ⌜ (kept (now (self .entry)) → Step kind (state (now (self .entry))) to-open (did r) (state (now (self .exit))) × kept (now (self .exit))) ⌝ };
+
+    // Copies an entry into the image store; refusals 2, 16, 17 and 18.
+    fn copy(&mut self, entry: usize) -> Result<(), Refusal>
+        ensures { λ r. ⌜ (kept (now (self .entry)) → Step kind (state (now (self .entry))) (to-copy entry) (did r) (state (now (self .exit))) × kept (now (self .exit))) ⌝ };
+
+    // The entry that is to be copied next, if any; refusal 16.
+    fn next(&self) -> Result<Option<usize>, Refusal>
+        ensures { λ r. ⌜ (kept (now (self .entry)) → r ≡ next-answer (state (now (self .entry)))) ⌝ };
+
+    // Copies what next answers until so many copies are made or next says none, and answers the copies made and the
+    // entries left uncopied; refusal 16.
+    fn work(&mut self, limit: usize) -> Result<(usize, usize), Refusal>
+        ensures { λ r. ⌜ (kept (now (self .entry)) → Step kind (state (now (self .entry))) (to-work limit) (counted r) (state (now (self .exit))) × kept (now (self .exit))) ⌝ };
+
+    // Gives the round up, with the image left as it is; refusal 16.
+    fn drop(&mut self) -> Result<(), Refusal>
+        ensures { λ r. ⌜ (kept (now (self .entry)) → Step kind (state (now (self .entry))) to-drop (did r) (state (now (self .exit))) × kept (now (self .exit))) ⌝ };
 }
