@@ -55,6 +55,17 @@ pub impl<L: Store, I: Store, K: Modes> Serves for Office<L, I, K> as OfficeServe
         self.sessions.claim(&self.kinds, session, entry, mode)
     }
 
+    fn read(&self, session: usize, entry: usize, buf: &mut [u8]) -> Result<usize, Refusal> {
+        let own = match self.sessions.own_text(&self.kinds, session, entry, buf) {
+            Ok(own) => own,
+            Err(f) => return Err(f),
+        };
+        match own {
+            Some(n) => Ok(n),
+            None => self.live.text(entry, buf),
+        }
+    }
+
     fn write(&mut self, session: usize, entry: usize, text: &[u8]) -> Result<(), Refusal> {
         self.sessions.write(&self.kinds, session, entry, text)
     }

@@ -1,9 +1,10 @@
 ghost use mathlib.Core.Path.{_≡_};
+ghost use lib.ListN.{length};
 ghost use Rattle.modes.specs.Kind.{Kind};
-ghost use Rattle.rules.specs.Office.{Office as State, begin as to-begin, claim as to-claim, write as to-write, commit as to-commit, leave as to-leave, open-round as to-open, copy as to-copy, work as to-work, drop-round as to-drop};
+ghost use Rattle.rules.specs.Office.{Office as State, begin as to-begin, claim as to-claim, read as to-read, write as to-write, commit as to-commit, leave as to-leave, open-round as to-open, copy as to-copy, work as to-work, drop-round as to-drop};
 ghost use Rattle.rules.specs.Rules.{Step, next-answer};
 ghost use Rattle.sessions.specs.Answers.{did, numbered};
-ghost use Rattle.backup.specs.Answers.{counted};
+ghost use Rattle.backup.specs.Answers.{counted, read-out, Rest-kept};
 use tables::Refusal;
 
 // An office: what it means, and what its calls answer and leave. Each call keeps to its rule in an office that is
@@ -25,6 +26,12 @@ pub trait Serves {
     // Claims an entry in a mode; refusals 1 to 7, and at 7 the session is ended.
     fn claim(&mut self, session: usize, entry: usize, mode: u8) -> Result<(), Refusal>
         ensures { λ r. ⌜ (kept (now (self .entry)) → Step kind (state (now (self .entry))) (to-claim session entry mode) (did r) (state (now (self .exit))) × kept (now (self .exit))) ⌝ };
+
+    // Puts the text that the session wrote to an entry, or else the live store's, at the front of the buffer, keeps the
+    // rest, and answers the text's length; refusals 1, 2, 8 and 9.
+    fn read(&self, session: usize, entry: usize, buf: &mut [u8]) -> Result<usize, Refusal>
+        ensures rule { λ r. ⌜ (kept (now (self .entry)) → Step kind (state (now (self .entry))) (to-read session entry (length (now (buf .entry)))) (read-out r (now (buf .exit))) (state (now (self .entry)))) ⌝ }
+        ensures rest { λ r. ⌜ Rest-kept r (now (buf .entry)) (now (buf .exit)) ⌝ };
 
     // Keeps a text for an entry that the session holds in a mode that writes; refusals 1, 2, 10 and 11.
     fn write(&mut self, session: usize, entry: usize, text: &[u8]) -> Result<(), Refusal>
