@@ -53,7 +53,7 @@ pub enum Call<'a> {
 // The answer to a call.
 #[derive(Clone, Copy)]
 pub enum Answer {
-    // the call is refused, and nothing is changed but where the refusal ends the session
+    // the call is refused, for this reason
     Refused(Refusal),
     // it is done
     Done,
