@@ -1,5 +1,5 @@
 -- The words and the numbers of a line.
-use mathlib.Core.Bool.{cond}
+use mathlib.Core.Bool.{Bool, cond}
 use mathlib.Core.List.{List, [], _∷_}
 use Prim.Native.Nat.{ℕ}
 use lib.Dec.{leb}
@@ -15,10 +15,14 @@ abbrev pub then : {A B : Type 0} → Option A → (A → Option B) → Option B
 then None f = None
 then (Some x) f = f x
 
+-- a word is the one that is named
+unfoldable pub is-word : List ℕ → List ℕ → Bool
+is-word w name = sameBytes w name
+
 -- what stands beside a word in a list; none where the word is not there
 abbrev pub beside : {A : Type 0} → List ℕ → List (List ℕ × Option A) → Option A
 beside w [] = None
-beside w (x ∷ xs) = cond (sameBytes w (x .0)) (x .1) (beside w xs)
+beside w (x ∷ xs) = cond (is-word w (x .0)) (x .1) (beside w xs)
 
 -- the number that a word of one to nine decimal digits writes; none of any other word
 abbrev pub short-number : List ℕ → Option ℕ

@@ -1,7 +1,6 @@
 ghost use mathlib.Core.Path.{_≡_};
 ghost use Rattle.std.specs.Options.{mapped};
-ghost use Rattle.std.specs.shelf.Text.{sameBytes};
-ghost use Rattle.script.specs.Fields.{short-number, field};
+ghost use Rattle.script.specs.Fields.{is-word, short-number, field};
 use words::cut_at;
 use words::number;
 
@@ -10,7 +9,7 @@ const MOST_DIGITS: usize = 9;
 
 // Tells whether a word is the one that is named.
 pub fn is_word(word: &[u8], name: &[u8]) -> bool
-    ensures { λ r. ⌜ r ≡ sameBytes (now (word .entry)) (now (name .entry)) ⌝ }
+    ensures { λ r. ⌜ r ≡ is-word (now (word .entry)) (now (name .entry)) ⌝ }
 {
     word == name
 }
