@@ -1,0 +1,4 @@
+pub mod Fields
+pub mod Openings
+pub mod Commands
+pub mod Shown
