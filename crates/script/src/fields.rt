@@ -8,14 +8,14 @@ use words::number;
 const MOST_DIGITS: usize = 9;
 
 // Tells whether a word is the one that is named.
-pub fn is_word(word: &[u8], name: &[u8]) -> bool
+pub(crate) fn is_word(word: &[u8], name: &[u8]) -> bool
     ensures { λ r. ⌜ r ≡ is-word (now (word .entry)) (now (name .entry)) ⌝ }
 {
     word == name
 }
 
 // The number that a word of one to nine decimal digits writes.
-pub fn short_number(word: &[u8]) -> Option<usize>
+pub(crate) fn short_number(word: &[u8]) -> Option<usize>
     ensures { λ r. ⌜ r ≡ short-number (now (word .entry)) ⌝ }
 {
     if word.len() > MOST_DIGITS {
@@ -29,13 +29,13 @@ pub fn short_number(word: &[u8]) -> Option<usize>
 
 // A number that ends with a space, and what stands after the space.
 #[derive(Clone, Copy)]
-pub struct Field<'a> {
+pub(crate) struct Field<'a> {
     pub number: usize,
     pub rest: &'a [u8],
 }
 
 // Splits a number and the space after it off the bytes.
-pub fn split_number(bytes: &[u8]) -> Option<Field<'_>>
+pub(crate) fn split_number(bytes: &[u8]) -> Option<Field<'_>>
     ensures { λ r. ⌜ mapped (λ x. (x .number, now (x .rest))) r ≡ field (now (bytes .entry)) ⌝ }
 {
     let cut = cut_at(bytes, b' ');
