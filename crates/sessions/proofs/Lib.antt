@@ -7,6 +7,7 @@ pub mod Leaves
 pub mod Sound
 pub mod HoldPlaces
 pub mod WriteRules
+pub mod ReadRules
 pub mod ClaimRules
 pub mod RoundRules
 pub mod CommitRules
