@@ -31,13 +31,6 @@ fn any_written(holds: &[Hold]) -> bool
 }
 
 impl SessionTable {
-    // The hand of the next commit that writes.
-    pub fn next_hand(&self) -> u32
-        ensures { λ r. ⌜ ((live image : Table) → r ≡ view (now (self .entry)) live image .next-hand) ⌝ }
-    {
-        self.next_hand
-    }
-
     // The holds of a session, whose texts a commit puts: each is of an entry of the office and its text is within its
     // bytes, and the next hand is one that a stamp may have; None where no live session has this number.
     pub fn holds_of(&self, s: usize) -> Option<&[Hold]>

@@ -9,6 +9,7 @@ pub mod calls;
 pub mod claims;
 pub mod commits;
 pub mod hold;
+pub mod questions;
 pub mod rounds;
 pub mod session;
 pub mod table;
@@ -17,8 +18,4 @@ pub mod verdict;
 
 pub use hold::Hold;
 pub use hold::HoldKeyed;
-pub use session::Session;
-pub use session::SessionKeyed;
-pub use session::Side;
 pub use table::SessionTable;
-pub use verdict::Verdict;

@@ -48,13 +48,6 @@ fn is_held(sessions: &[Session], e: usize) -> bool
 }
 
 impl SessionTable {
-    // Whether a round is open.
-    pub fn round_is_open(&self) -> bool
-        ensures { λ r. ⌜ ((live image : Table) → r ≡ view (now (self .entry)) live image .round) ⌝ }
-    {
-        self.round
-    }
-
     // Opens a round into an image of this many entries; refusals 14 and 15.
     pub fn open_round(&mut self, image_entries: usize) -> Result<(), Refusal>
         ensures rule { λ r. ⌜ ((K : Kind) (live image : Table) → length live ≡ now (self .entry) .entries → length image ≡ «image_entries» → Step K (view (now (self .entry)) live image) to-open (did r) (view (now (self .exit)) live image)) ⌝ }

@@ -15,11 +15,11 @@ use keyed::place;
 use keyed::vacancy;
 
 // The most entries that a session holds.
-pub const MOST_HOLDS: usize = 8;
+const MOST_HOLDS: usize = 8;
 
 // The side of a session in a round.
 #[derive(Clone, Copy)]
-pub enum Side {
+pub(crate) enum Side {
     Neither,
     Before,
     After,
@@ -27,7 +27,7 @@ pub enum Side {
 
 // A place for a session: free, or with a live session of a number, its side and its holds.
 #[derive(Clone, Copy)]
-pub struct Session {
+pub(crate) struct Session {
     pub(crate) live: bool,
     pub(crate) number: usize,
     pub(crate) side: Side,

@@ -8,7 +8,7 @@ use super::session::Session;
 use tables::MOST_ENTRIES;
 
 // The most sessions that are live at a time.
-pub const MOST_SESSIONS: usize = 16;
+pub(crate) const MOST_SESSIONS: usize = 16;
 
 // The sessions of an office of `entries` entries, with the next session number and the next hand; whether a
 // round is open, and which entries it has copied.

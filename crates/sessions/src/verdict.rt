@@ -4,7 +4,7 @@ use super::session::Side;
 
 // What a round says to a claim: it is granted and the session has this side, it is paused, or the session ends.
 #[derive(Clone, Copy)]
-pub enum Verdict {
+pub(crate) enum Verdict {
     Grant(Side),
     Pause,
     End,
