@@ -8,7 +8,7 @@ use native.Mathlib.Omega.{arith}
 use lib.ListN.{length, getD, set}
 use Rattle.std.specs.declared.option.Option.{Option}
 use Rattle.std.specs.declared.option.Option.the-variants.{None, Some}
-use Rattle.rules.specs.Numbers.{some?, maybe, changed, count-below, one-if}
+use Rattle.rules.specs.Numbers.{some?, maybe, count-below, one-if}
 use Rattle.rules.proofs.Tests.{bool?, not-both, and-true, same?, eqb-self, some-none, eqb-apart}
 use Rattle.rules.proofs.Below.{count-same}
 use Rattle.keyed.specs.Keyed.{is-key, position, find, absent, distinct, under, all-under, count-taken}

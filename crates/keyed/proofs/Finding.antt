@@ -10,7 +10,7 @@ use Rattle.std.specs.declared.option.Option.{Option}
 use Rattle.std.specs.declared.option.Option.the-variants.{None, Some}
 use Rattle.rules.specs.Numbers.{some?, changed}
 use Rattle.rules.proofs.Tests.{not-both, not-true, and-true, same?, some-none}
-use Rattle.keyed.specs.Keyed.{is-key, position, find, absent, distinct, under}
+use Rattle.keyed.specs.Keyed.{is-key, position, find, absent, distinct}
 use Rattle.keyed.proofs.Positions.{one-on, position-split, position-at}
 
 -- a value that is not there

@@ -9,7 +9,7 @@ use Rattle.std.specs.declared.option.Option.the-variants.{None, Some}
 use Rattle.rules.specs.Numbers.{some?, maybe, any-below}
 use Rattle.rules.proofs.Tests.{bool?, not-both, bool-ext, or-true, or-right, and-true, eqb-self, some-none, same-value}
 use Rattle.rules.proofs.Below.{any-yes, any-find}
-use Rattle.keyed.specs.Keyed.{is-key, position, find, absent, distinct, under, all-under, any-taken}
+use Rattle.keyed.specs.Keyed.{is-key, position, find, absent, distinct, all-under, any-taken}
 use Rattle.keyed.proofs.Positions.{position-split, position-behind}
 use Rattle.keyed.proofs.Finding.{is-key-true, is-key-of, absent-missing}
 use Rattle.keyed.proofs.Under.{find-under}

@@ -5,7 +5,7 @@ use mathlib.Core.Bool.{true, cond}
 use mathlib.Core.List.{List, [], _∷_}
 use Prim.Native.Nat.{ℕ, zero, suc, _≤_, _<_}
 use native.Mathlib.Omega.{arith}
-use lib.ListN.{set}
+use lib.ListN.{length, getD, set}
 use lib.Dec.{ltb, ltb→lt, lt→ltb}
 use Rattle.std.specs.declared.option.Option.{Option}
 use Rattle.std.specs.declared.option.Option.the-variants.{None, Some}
@@ -52,3 +52,8 @@ find-past key n l s a h = go (find key l s) refl
     go : (o : Option _) → find key l s ≡ o → o ≡ None
     go None e = refl
     go (Some x) e = let b = find-under key n l s x a e in absurd (omega arith)
+
+pub under-at : {X : Type 0} (key : X → Option ℕ) (n : ℕ) (l : List X) (i : ℕ) (d : X) → i < length l → all-under key n l ≡ true → under n (key (getD l i d)) ≡ true
+under-at key n [] i d h e = absurd (omega arith)
+under-at key n (x ∷ xs) zero d h e = and-true (under n (key x)) (all-under key n xs) e .0
+under-at key n (x ∷ xs) (suc i) d h e = under-at key n xs i d (omega arith) (and-true (under n (key x)) (all-under key n xs) e .1)

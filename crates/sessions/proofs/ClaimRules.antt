@@ -9,13 +9,13 @@ use lib.ListN.{length, getD}
 use Rattle.std.proofs.shelf.Lists.{length-set}
 use Rattle.std.proofs.shelf.Tests.{le-leb, lt-leb, eqb-true}
 use Rattle.std.specs.declared.option.Option.the-variants.{None, Some}
-use Rattle.tables.specs.Tables.{Table, entry}
+use Rattle.tables.specs.Tables.{Table}
 use Rattle.tables.specs.declared.refusal.Refusal.the-variants.{NoSession, NoEntry, NoMode, HoldsFull, Conflict, Paused, Ended}
 use Rattle.modes.specs.Kind.{Kind}
 use Rattle.rules.proofs.Below.{count-same}
 use Rattle.rules.proofs.Tests.{not-false, same?, eqb-self}
 use Rattle.rules.specs.Numbers.{some?, or-else, maybe, changed, one-if}
-use Rattle.rules.specs.Office.{is-before, is-after, new-session, entries, session, mode-at, others-held, claim, refused, done}
+use Rattle.rules.specs.Office.{is-before, is-after, new-session, session, mode-at, others-held, claim, refused, done}
 use Rattle.rules.specs.Rules.{wanted, conflicts, declines, with-session, first-side, after-claim, after-leave, Step}
 use Rattle.keyed.proofs.Counting.{counted, count-find, count-room, count-full}
 use Rattle.keyed.proofs.Every.{every-set, every-at}

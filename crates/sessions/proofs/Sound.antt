@@ -9,7 +9,6 @@ use Rattle.std.proofs.shelf.Lists.{length-set, length-take-le}
 use Rattle.std.proofs.shelf.Tests.{eqb-true, eq-eqb, leb-true}
 use Rattle.std.specs.declared.option.Option.the-variants.{Some}
 use Rattle.rules.proofs.Tests.{and-true}
-use Rattle.rules.specs.Office.{entries}
 use Rattle.keyed.proofs.Counting.{counted, count-set}
 use Rattle.keyed.proofs.Distinct.{distinct-changed}
 use Rattle.keyed.proofs.Every.{every-set, every-at}

@@ -15,7 +15,7 @@ use Rattle.tables.specs.declared.refusal.Refusal.the-variants.{NoSession, NoEnt
 use Rattle.modes.specs.Kind.{Kind}
 use Rattle.rules.proofs.Tests.{same?}
 use Rattle.rules.specs.Numbers.{changed}
-use Rattle.rules.specs.Office.{Text, entries, session, write, refused, done}
+use Rattle.rules.specs.Office.{Text, session, write, refused, done}
 use Rattle.rules.specs.Rules.{with-session, after-write, Step}
 use Rattle.keyed.proofs.Distinct.{distinct-changed}
 use Rattle.keyed.proofs.Every.{every-set}

@@ -13,7 +13,7 @@ use Rattle.tables.specs.Tables.{Table, entry}
 use Rattle.tables.specs.declared.refusal.Refusal.{Refusal}
 use Rattle.tables.specs.declared.refusal.Refusal.the-variants.{ShortBuffer, NumbersSpent, CountHigh}
 use Rattle.rules.specs.Numbers.{or-else, first-of}
-use Rattle.rules.specs.Office.{Text, entries, Answer, refused, done, number, found}
+use Rattle.rules.specs.Office.{Text, Answer, refused, done, number, found}
 
 -- why there is no session table of this many entries with these first numbers
 abbrev pub new-refusal : ℕ → ℕ → Option Refusal

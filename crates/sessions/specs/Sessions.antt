@@ -6,9 +6,7 @@ use lib.Dec.{eqb, leb}
 use lib.ListN.{length, set, drop, replicate}
 use Rattle.std.specs.declared.option.Option.{Option}
 use Rattle.std.specs.declared.option.Option.the-variants.{None, Some}
-use Rattle.tables.specs.Tables.{entry}
 use Rattle.rules.specs.Numbers.{some?, maybe}
-use Rattle.rules.specs.Office.{number}
 use Rattle.keyed.specs.Keyed.{is-key, position, any-taken, distinct, all-under, every}
 use Rattle.sessions.specs.declared.hold.Hold.{Hold}
 use Rattle.sessions.specs.declared.session.Session.{Session}

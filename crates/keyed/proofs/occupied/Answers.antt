@@ -1,7 +1,6 @@
-use mathlib.Core.Path.{_≡_, sym, subst, _∙_, ap}
+use mathlib.Core.Path.{_≡_, sym, subst, _∙_}
 use mathlib.Core.Bool.{true, false}
 use borrow.Author.Count.{below-more}
-use lib.ListN.{getD}
 use Rattle.std.proofs.shelf.Lists.{getD-default}
 use Rattle.keyed.proofs.Testing.{passes}
 use Rattle.keyed.proofs.Positions.{position-some, position-none}

@@ -5,7 +5,6 @@ use native.Mathlib.Numerals.{add-one}
 use native.Mathlib.Omega.{arith}
 use lib.ListN.{length, getD}
 use Rattle.rules.specs.Numbers.{one-if, count-below}
-use Rattle.rules.specs.Rules.{step}
 use Rattle.sessions.proofs.table.SessionTable.left.Needs as need
 use Rattle.sessions.proofs.table.SessionTable.left.Needs.{then-not-self-e, else-not-self-e}
 

@@ -4,7 +4,6 @@ use lib.Dec.{ltb}
 use Rattle.std.proofs.shelf.Tests.{le-ltb}
 use Rattle.std.specs.declared.option.Option.the-variants.{None}
 use Rattle.tables.specs.declared.refusal.Refusal.the-variants.{NumbersSpent, CountHigh}
-use Rattle.rules.specs.Office.{entries}
 use Rattle.sessions.proofs.Begins.{seen-new}
 use Rattle.sessions.proofs.Steps.{first-falls, pass, over}
 use Rattle.sessions.proofs.table.SessionTable.new.Needs as need

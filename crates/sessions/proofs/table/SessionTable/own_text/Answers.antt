@@ -3,7 +3,6 @@ use Prim.Native.Nat.{_≤_, _<_}
 use native.Mathlib.Omega.{arith}
 use lib.ListN.{length, getD, take}
 use borrow.Author.Needs.{needs}
-use Rattle.tables.specs.Tables.{entry}
 use Rattle.sessions.specs.Sessions.{no-hold}
 use Rattle.sessions.proofs.Parts.{parts, session-in}
 use Rattle.sessions.proofs.ReadRules.{front-own, front-none, Reading, reading-for, fits-in, err-ok, some-ok, read-nowhere, read-past, read-unheld, read-mode, read-live, read-short, read-own}
