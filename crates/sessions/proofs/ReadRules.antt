@@ -10,9 +10,7 @@ use lib.Dec.{ltb, leb}
 use lib.ListN.{length, getD, take, drop}
 use Rattle.std.proofs.shelf.Lists.{take-at, drop-at}
 use Rattle.std.proofs.shelf.Tests.{lt-ltb, le-ltb, leb-true, leb-false}
-use Rattle.std.specs.declared.option.Option.{Option}
 use Rattle.std.specs.declared.option.Option.the-variants.{None, Some}
-use Rattle.std.specs.declared.result.Result.{Result}
 use Rattle.std.specs.declared.result.Result.the-variants.{Ok, Err}
 use Rattle.tables.specs.Answers.{Front}
 use Rattle.tables.specs.Tables.{Table, entry}
@@ -167,11 +165,3 @@ fits-in t i k h l =
     let w = sound-in (parts t) i h (kept t) in
     let eight = w .eight in
     every-at fits (session-in (parts t) i .holds) k no-hold (omega arith) (w .fitting)
-
--- a refusal is no answer
-pub err-ok : {A : Type 0} {P : Type 0} {f : Refusal} {a : A} → Err f ≡ Ok a → P
-err-ok q = let z : _≡_ {A = ℕ} 0 1 = cc in absurd (omega arith)
-
--- a text is not none
-pub some-ok : {P : Type 0} {n : ℕ} → _≡_ {A = Result (Option ℕ) Refusal} (Ok (Some n)) (Ok None) → P
-some-ok q = let z : _≡_ {A = ℕ} 0 1 = cc in absurd (omega arith)

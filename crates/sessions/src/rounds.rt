@@ -3,6 +3,7 @@ ghost use mathlib.Core.List.{map};
 ghost use Prim.Native.Nat.{_<_};
 ghost use lib.ListN.{length, set};
 ghost use Rattle.std.specs.declared.option.Option.the-variants.{Some, None};
+ghost use Rattle.std.specs.declared.result.Result.the-variants.{Ok, Err};
 ghost use Rattle.tables.specs.Tables.{Table, entry};
 ghost use Rattle.modes.specs.Kind.{Kind};
 ghost use Rattle.rules.specs.Numbers.{maybe, lowest};
@@ -81,6 +82,7 @@ impl SessionTable {
     // Marks an entry as copied; refusals 2, 16, 17 and 18.
     pub fn mark_copied(&mut self, e: usize) -> Result<(), Refusal>
         ensures rule { λ r. ⌜ ((K : Kind) (live image : Table) → length live ≡ now (self .entry) .entries → Step K (view (now (self .entry)) live image) (to-copy e) (did r) (view (now (self .exit)) live (copied-image r e live image))) ⌝ }
+        ensures within { λ r. ⌜ elim r [ Ok u ↦ e < now (self .entry) .entries | Err f ↦ Unit {0} ] ⌝ }
         ensures same { λ _. ⌜ now (self .exit) .entries ≡ now (self .entry) .entries ⌝ }
     {
         if e >= self.entries {
@@ -134,6 +136,7 @@ impl SessionTable {
     pub fn mark_next(&mut self) -> Option<usize>
         ensures next { λ r. ⌜ ((live image : Table) → length live ≡ now (self .entry) .entries → r ≡ next-of (view (now (self .entry)) live image)) ⌝ }
         ensures mark { λ r. ⌜ ((live image : Table) → length live ≡ now (self .entry) .entries → view (now (self .exit)) live (maybe r image (λ e. set image e (entry live e))) ≡ maybe r (view (now (self .entry)) live image) (after-copy (view (now (self .entry)) live image))) ⌝ }
+        ensures within { λ r. ⌜ elim r [ Some e ↦ e < now (self .entry) .entries | None ↦ Unit {0} ] ⌝ }
         ensures same { λ _. ⌜ now (self .exit) .entries ≡ now (self .entry) .entries ⌝ }
     {
         let Some(e) = self.next_entry() else {

@@ -2,7 +2,7 @@ ghost use mathlib.Core.Path.{_≡_};
 ghost use Prim.Native.Nat.{_<_};
 ghost use lib.ListN.{length, getD};
 ghost use Rattle.std.specs.declared.option.Option.the-variants.{Some, None};
-ghost use Rattle.std.specs.declared.result.Result.the-variants.{Ok};
+ghost use Rattle.std.specs.declared.result.Result.the-variants.{Ok, Err};
 ghost use Rattle.tables.specs.Tables.{Table, entry};
 ghost use Rattle.rules.specs.Office.{read as to-read, write as to-write};
 ghost use Rattle.rules.specs.Rules.{Step};
@@ -40,7 +40,7 @@ impl SessionTable {
     ) -> Result<Option<usize>, Refusal>
         ensures rule { λ r. ⌜ ((live image : Table) → length live ≡ now (self .entry) .entries → Step (K·Modes .kind) (view (now (self .entry)) live image) (to-read s e (length (now (buf .entry)))) (own-answer r (now (buf .exit)) (entry live e .text)) (view (now (self .entry)) live image)) ⌝ }
         ensures rest { λ r. ⌜ Buffer-kept r (now (buf .entry)) (now (buf .exit)) ⌝ }
-        ensures known { λ r. ⌜ (r ≡ Ok None → e < now (self .entry) .entries) ⌝ }
+        ensures within { λ r. ⌜ elim r [ Ok o ↦ e < now (self .entry) .entries | Err f ↦ Unit {0} ] ⌝ }
     {
         let Some(i) = place(&self.sessions, s) else {
             return Err(Refusal::NoSession);

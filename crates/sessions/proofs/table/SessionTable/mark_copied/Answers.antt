@@ -14,6 +14,7 @@ returns-then-is-held c =
           λ K live image n.
           let h : c .args .e < length live = omega (arith, n, c .if-e-self .left) in
           copy-held K (parts t) live image (c .args .e) (kept t) h (c .if-not-self .left) (c .if-self-e .left) (sym (c .if-is-held .ensures tt));
+      within = tt;
       same = refl;
     }
 
@@ -25,5 +26,6 @@ returns c =
           λ K live image n.
           let h : c .args .e < length live = omega (arith, n, c .if-e-self .left) in
           copy-done K (parts t) live image (c .args .e) (kept-for t live n) h (c .if-not-self .left) (c .if-self-e .left) (sym (c .is-held .ensures) ∙ c .if-is-held .left);
+      within = c .if-e-self .left;
       same = refl;
     }

@@ -12,6 +12,7 @@ returns-in-rest c =
     record {
       next = λ live image n. c .in-rest .ensures tt .is ∙ sym (next-copyable t live image n);
       mark = λ live image n. refl;
+      within = tt;
       same = refl;
     }
 
@@ -22,5 +23,6 @@ returns c =
     record {
       next = λ live image n. c .in-Some .ensures tt .is ∙ sym (next-copyable t live image n);
       mark = λ live image n. seen-marked (parts t) live image (c .in-Some .e) h;
+      within = c .in-Some .ensures tt .within;
       same = refl;
     }

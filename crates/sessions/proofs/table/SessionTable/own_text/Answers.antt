@@ -5,8 +5,9 @@ use lib.ListN.{length, getD, take}
 use borrow.Author.Needs.{needs}
 use Rattle.sessions.specs.Sessions.{no-hold}
 use Rattle.sessions.proofs.Parts.{parts, session-in}
-use Rattle.sessions.proofs.ReadRules.{front-own, front-none, Reading, reading-for, fits-in, err-ok, some-ok, read-nowhere, read-past, read-unheld, read-mode, read-live, read-short, read-own}
+use Rattle.sessions.proofs.ReadRules.{front-own, front-none, Reading, reading-for, fits-in, read-nowhere, read-past, read-unheld, read-mode, read-live, read-short, read-own}
 use Rattle.sessions.proofs.Sound.{fits-bytes, fits-len}
+use borrow.Author.Needs.{needs}
 use borrow.Author.Needs.{needs}
 use Rattle.sessions.proofs.table.SessionTable.own_text.Needs as need
 
@@ -16,7 +17,7 @@ returns-in-rest g c =
     record {
       rule = λ live image n. read-nowhere (g .K·Modes .kind) (parts t) live image (c .args .s) (c .args .e) (length (c .args .buf .now)) (c .in-rest .ensures tt);
       rest = refl;
-      known = λ q. err-ok q;
+      within = tt;
     }
 
 pub returns-then-e-self : need.returns-then-e-self
@@ -28,7 +29,7 @@ returns-then-e-self g c =
           let h : length live ≤ c .args .e = omega (arith, n, c .if-e-self .taken) in
           read-past (g .K·Modes .kind) (parts t) live image (c .args .s) (c .args .e) (length (c .args .buf .now)) (c .in-Some .i) (c .in-Some .ensures tt .1) h;
       rest = refl;
-      known = λ q. err-ok q;
+      within = tt;
     }
 
 pub returns-in-rest-hold-of : need.returns-in-rest-hold-of
@@ -41,7 +42,7 @@ returns-in-rest-hold-of g c =
           read-unheld (g .K·Modes .kind) (parts t) live image (c .args .s) (c .args .e) (length (c .args .buf .now)) (c .in-Some .i) (c .in-Some .ensures tt .1) h
           (c .in-rest-hold-of .ensures tt);
       rest = refl;
-      known = λ q. err-ok q;
+      within = tt;
     }
 
 pub returns-then-not-reads : need.returns-then-not-reads
@@ -54,7 +55,7 @@ returns-then-not-reads g c =
           read-mode (g .K·Modes .kind) (parts t) live image (c .args .s) (c .args .e) (length (c .args .buf .now)) (c .in-Some .i) (c .in-Some-hold-of .k) (c .in-Some .ensures tt .1) h
           (c .in-Some-hold-of .ensures tt .1) (sym (c .if-not-reads .ensures tt));
       rest = refl;
-      known = λ q. err-ok q;
+      within = tt;
     }
 
 pub returns-then-not-hold : need.returns-then-not-hold
@@ -68,7 +69,7 @@ returns-then-not-hold g c =
     record {
       rule = λ live image n. read-live K (parts t) live image (c .args .s) (c .args .e) i k (reading-for live n a) (length (c .args .buf .now)) (c .if-not-hold .taken);
       rest = refl;
-      known = λ q. c .if-e-self .left;
+      within = c .if-e-self .left;
     }
 
 pub part-fill-front-end : need.part-fill-front-end
@@ -96,7 +97,7 @@ returns-in-Ok g c =
           λ live image n.
           read-own K (parts t) live image (c .args .s) (c .args .e) i k (reading-for live n a) (length buf) (take (c .in-Ok .n) (c .fill-front .last .buf)) (c .if-not-hold .left) (f .0) (f .1);
       rest = f .2;
-      known = λ q. some-ok q;
+      within = c .if-e-self .left;
     }
 
 pub returns-in-Err : need.returns-in-Err
@@ -113,5 +114,5 @@ returns-in-Err g c =
     record {
       rule = λ live image n. read-short K (parts t) live image (c .args .s) (c .args .e) i k (reading-for live n a) (length buf) (c .in-Err .f) (c .if-not-hold .left) (f .1) (f .0);
       rest = f .2;
-      known = λ q. err-ok q;
+      within = tt;
     }
