@@ -14,6 +14,7 @@ abbrev pub mapped : {X Y : Type 0} → (X → Y) → Option X → Option Y
 mapped f None = None
 mapped f (Some x) = Some (f x)
 
+-- what is found, keys that are absent, distinct or below a bound, and the count, where each place is changed
 pub find-map : {X : Type 0} (key : X → Option ℕ) (f : X → X) (l : List X) (s : ℕ) → ((x : X) → key (f x) ≡ key x) → find key (map f l) s ≡ mapped f (find key l s)
 find-map key f [] s h = refl
 find-map key f (x ∷ xs) s h =

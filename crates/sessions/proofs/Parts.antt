@@ -58,6 +58,7 @@ pub record Kept (n : ℕ) (d : Parts) : Type 0 where
   pub last : d .next ≤ 4_000_000_001
   pub hands : d .hand + count-taken session-key (λ _. true) (d .sessions) ≤ d .next
 
+-- what the ghost fields say
 pub kept : (t : SessionTable) → Kept (t .entries) (parts t)
 kept t =
     record {
