@@ -31,8 +31,8 @@ pub trait Keyed {
 pub fn place<T: Keyed>(places: &[T], k: usize) -> Option<usize>
     ensures { λ r. ⌜ elim r [ Some i ↦ (i < length (now (places .entry))) × (position (λ x. is-key (T·Keyed .key x) k) (now (places .entry)) ≡ Some i) | None ↦ position (λ x. is-key (T·Keyed .key x) k) (now (places .entry)) ≡ None ] ⌝ }
 {
-    for i in 0..places.len() {
-        if places[i].is_under(k) {
+    for (i, x) in places.iter().enumerate() {
+        if x.is_under(k) {
             return Some(i);
         }
     }
@@ -43,9 +43,9 @@ pub fn place<T: Keyed>(places: &[T], k: usize) -> Option<usize>
 pub fn vacancy<T: Keyed>(places: &[T]) -> Option<usize>
     ensures { λ r. ⌜ elim r [ Some i ↦ (i < length (now (places .entry))) × (position (λ x. not (some? (T·Keyed .key x))) (now (places .entry)) ≡ Some i) | None ↦ position (λ x. not (some? (T·Keyed .key x))) (now (places .entry)) ≡ None ] ⌝ }
 {
-    for i in 0..places.len() {
-        if places[i].is_free() {
-            return Some(i);
+    for (free, x) in places.iter().enumerate() {
+        if x.is_free() {
+            return Some(free);
         }
     }
     None
@@ -55,8 +55,8 @@ pub fn vacancy<T: Keyed>(places: &[T]) -> Option<usize>
 pub fn occupied<T: Keyed>(places: &[T]) -> bool
     ensures { λ r. ⌜ r ≡ any-taken (T·Keyed .key) (λ k x. true) (now (places .entry)) ⌝ }
 {
-    for i in 0..places.len() {
-        if !places[i].is_free() {
+    for x in places {
+        if !x.is_free() {
             return true;
         }
     }
