@@ -40,6 +40,7 @@ count-at (suc n) k f g l z h =
           omega (arith, ih, fn)
     ]
 
+-- the numbers below n under which something is found are as many as the places taken
 pub count-find : {X : Type 0} (key : X → Option ℕ) (p : ℕ → Bool) (n : ℕ) (l : List X) → distinct key l ≡ true → all-under key n l ≡ true
     → count-below n (λ s. p s && isSome (find key l s)) ≡ count-taken key p l
 count-find key p n [] a u = none-pass n
@@ -80,6 +81,7 @@ count-find key p n (x ∷ xs) a u =
         (λ j m. ap (λ c. p j && isSome (cond c (Some x) (find key xs j))) (is-key-of j kx ∙ eqb-apart m)) in
         omega (arith, h, at-k, e, ih)
 
+-- each place counts at most 1
 counted-one : (p : ℕ → Bool) (o : Option ℕ) → counted p o ≤ 1
 counted-one p None = omega arith
 counted-one p (Some k) = go (p k)
@@ -88,6 +90,7 @@ counted-one p (Some k) = go (p k)
     go true = omega arith
     go false = omega arith
 
+-- no more are taken than there are places
 pub count-most : {X : Type 0} (key : X → Option ℕ) (p : ℕ → Bool) (l : List X) → count-taken key p l ≤ length l
 count-most key p [] = omega arith
 count-most key p (x ∷ xs) = omega (arith, counted-one p (key x), count-most key p xs)
@@ -102,6 +105,7 @@ count-room key p q (x ∷ xs) i z e =
       | inr w ↦ omega (arith, counted-one p (key x), count-room key p q xs (w .1 .0) z (w .1 .2))
     ]
 
+-- no place is free, and each key passes
 pub count-full : {X : Type 0} (key : X → Option ℕ) (p : ℕ → Bool) (l : List X) → position (λ x. not (isSome (key x))) l ≡ None
     → ((k : ℕ) → p k ≡ false → find key l k ≡ None) → count-taken key p l ≡ length l
 count-full key p [] e h = refl

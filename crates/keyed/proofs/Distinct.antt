@@ -9,11 +9,13 @@ use lib.Dec.{eqb}
 use Rattle.std.specs.Options.{isSome}
 use Rattle.std.specs.declared.option.Option.{Option}
 use Rattle.std.specs.declared.option.Option.the-variants.{None, Some}
+
 use Rattle.rules.proofs.Tests.{not-both, not-true, and-true, same?, eqb-self, some-none}
 use Rattle.keyed.specs.Keyed.{is-key, position, find, absent, distinct}
 use Rattle.keyed.proofs.Positions.{position-split}
 use Rattle.keyed.proofs.Finding.{not-there, and-both, is-key-true, find-behind, find-changed, find-cleared, find-added}
 
+-- a key stays absent where the same is found under it, or less
 pub absent-ext : {X : Type 0} (key : X → Option ℕ) (o : Option ℕ) (xs ys : List X) → ((t : ℕ) → o ≡ Some t → find key ys t ≡ find key xs t)
     → absent key o xs ≡ true → absent key o ys ≡ true
 absent-ext key None xs ys f a = refl
@@ -28,6 +30,7 @@ other-number : (o : Option ℕ) (s t : ℕ) → is-key o s ≡ false → o ≡ S
 other-number o s t h e =
     elim (same? t s) [ inl q ↦ not-both (ap (λ o. is-key o s) e ∙ ap (λ k. eqb s k) (q .1) ∙ eqb-self s) h | inr q ↦ q .0 ]
 
+-- the place under s is changed, and stays under s
 pub distinct-changed : {X : Type 0} (key : X → Option ℕ) (l : List X) (s i : ℕ) (y : X) → key y ≡ Some s → position (λ x. is-key (key x) s) l ≡ Some i
     → distinct key l ≡ true → distinct key (set l i y) ≡ true
 distinct-changed key [] s i y ky e a = some-none e refl
@@ -45,6 +48,7 @@ distinct-changed {X} key (x ∷ xs) s i y ky e a =
           (distinct-changed key xs s (q .1 .0) y ky (q .1 .2) (aa .1)))
     ]
 
+-- the place under s becomes free
 pub distinct-cleared : {X : Type 0} (key : X → Option ℕ) (l : List X) (s i : ℕ) (y : X) → key y ≡ None → position (λ x. is-key (key x) s) l ≡ Some i
     → distinct key l ≡ true → distinct key (set l i y) ≡ true
 distinct-cleared key [] s i y ky e a = some-none e refl
@@ -66,6 +70,7 @@ distinct-cleared {X} key (x ∷ xs) s i y ky e a =
           (distinct-cleared key xs s (q .1 .0) y ky (q .1 .2) (aa .1)))
     ]
 
+-- a free place is taken under s
 pub distinct-added : {X : Type 0} (key : X → Option ℕ) (l : List X) (s i : ℕ) (y : X) → key y ≡ Some s → position (λ x. not (isSome (key x))) l ≡ Some i
     → find key l s ≡ None → distinct key l ≡ true → distinct key (set l i y) ≡ true
 distinct-added key [] s i y ky e m a = some-none e refl

@@ -19,19 +19,24 @@ pub not-there : {A : Type 0} (x : Option A) → isSome x ≡ false → x ≡ Non
 not-there None e = refl
 not-there (Some a) e = absurd (true≢false e)
 
+-- two tests that pass
 pub and-both : {a b : Bool} → a ≡ true → b ≡ true → (a && b) ≡ true
 and-both p q = rw p q
 
+-- a key that is s
 pub is-key-true : (o : Option ℕ) (s : ℕ) → is-key o s ≡ true → o ≡ Some s
 is-key-true None s e = absurd (false≢true e)
 is-key-true (Some k) s e = elim (same? s k) [ inl q ↦ ap Some (sym (q .1)) | inr q ↦ not-both e (q .0) ]
 
+-- the test of a key that is known
 pub is-key-of : {o : Option ℕ} {k : ℕ} (s : ℕ) → o ≡ Some k → is-key o s ≡ eqb s k
 is-key-of s e = ap (λ o. is-key o s) e
 
+-- a free place has no key
 pub free-none : (o : Option ℕ) → not (isSome o) ≡ true → o ≡ None
 free-none o e = not-there o (not-true (isSome o) e)
 
+-- one test asked twice, and two that exclude one another asked in either order
 pub cond-twice : {A : Type 0} (b : Bool) (u v w : A) → cond b u w ≡ cond b u (cond b v w)
 cond-twice true u v w = refl
 cond-twice false u v w = refl
@@ -42,12 +47,15 @@ cond-swap true false u v w f = refl
 cond-swap false true u v w f = refl
 cond-swap false false u v w f = refl
 
+-- a key that is not s is not t either, if t is s
 pub other-key : (o : Option ℕ) (s t : ℕ) → is-key o s ≡ false → eqb t s ≡ true → is-key o t ≡ false
 other-key o s t h e = elim (same? t s) [ inl q ↦ ap (is-key o) (q .1) ∙ h | inr q ↦ not-both e (q .0) ]
 
+-- what stands first under s has the key s
 pub position-key : {X : Type 0} (key : X → Option ℕ) (l : List X) (s i : ℕ) (d : X) → position (λ x. is-key (key x) s) l ≡ Some i → key (getD l i d) ≡ Some s
 position-key key l s i d e = is-key-true (key (getD l i d)) s (position-at (λ x. is-key (key x) s) l i d e)
 
+-- what is found under s stands at its place
 pub find-place : {X : Type 0} (key : X → Option ℕ) (l : List X) (s i : ℕ) (d : X) → position (λ x. is-key (key x) s) l ≡ Some i
     → find key l s ≡ Some (getD l i d)
 find-place key [] s i d e = some-none e refl
@@ -60,6 +68,7 @@ find-place key (x ∷ xs) s i d e =
           (ap (λ b. cond b (Some x) (find key xs s)) (q .0) ∙ find-place key xs s k d (q .1 .2))
     ]
 
+-- nothing is found where none has the place
 pub find-missing : {X : Type 0} (key : X → Option ℕ) (l : List X) (s : ℕ) → position (λ x. is-key (key x) s) l ≡ None → find key l s ≡ None
 find-missing key [] s e = refl
 find-missing key (x ∷ xs) s e = go (find-missing key xs s) (is-key (key x) s) refl (position (λ x. is-key (key x) s) xs) refl e
@@ -70,6 +79,7 @@ find-missing key (x ∷ xs) s e = go (find-missing key xs s) (is-key (key x) s) 
     go ih false h None q r = ap (λ b. cond b (Some x) (find key xs s)) h ∙ ih q
     go ih false h (Some k) q r = some-none {x = Some (suc k)} refl (sym (rw (h, q)) ∙ r)
 
+-- nothing is found under s: not in front, nor further back
 pub find-behind : {X : Type 0} (key : X → Option ℕ) (x : X) (xs : List X) (s : ℕ) → find key (x ∷ xs) s ≡ None
     → (is-key (key x) s ≡ false) × (find key xs s ≡ None)
 find-behind key x xs s e = go (is-key (key x) s) refl
@@ -95,6 +105,7 @@ find-changed {X} key (x ∷ xs) s i y ky e t =
           ∙ cond-swap (eqb t s) (is-key (key x) t) (Some x) (Some y) (find key xs t) (other-key (key x) s t (q .0)))
     ]
 
+-- nothing is found under a key that is absent
 pub absent-missing : {X : Type 0} (key : X → Option ℕ) {o : Option ℕ} {s : ℕ} (xs : List X) → o ≡ Some s → absent key o xs ≡ true → find key xs s ≡ None
 absent-missing key {o} {s} xs e a = not-there (find key xs s) (not-true (isSome (find key xs s)) (subst (λ p. absent key p xs ≡ true) e a))
 

@@ -6,6 +6,7 @@ use Prim.Native.Nat.{ℕ, _+_}
 use Rattle.std.specs.Options.{isSome}
 use Rattle.std.specs.declared.option.Option.{Option}
 use Rattle.std.specs.declared.option.Option.the-variants.{None, Some}
+
 use Rattle.keyed.specs.Keyed.{is-key, find, absent, distinct, under, all-under, count-taken}
 use Rattle.keyed.proofs.Counting.{counted}
 
@@ -14,6 +15,7 @@ abbrev pub mapped : {X Y : Type 0} → (X → Y) → Option X → Option Y
 mapped f None = None
 mapped f (Some x) = Some (f x)
 
+-- what is found, keys that are absent, distinct or below a bound, and the count, where each place is changed
 pub find-map : {X : Type 0} (key : X → Option ℕ) (f : X → X) (l : List X) (s : ℕ) → ((x : X) → key (f x) ≡ key x) → find key (map f l) s ≡ mapped f (find key l s)
 find-map key f [] s h = refl
 find-map key f (x ∷ xs) s h =

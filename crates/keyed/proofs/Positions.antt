@@ -16,6 +16,7 @@ use Rattle.keyed.specs.Keyed.{position}
 abbrev pub one-on : Option ℕ → Option ℕ
 one-on o = maybe o None (λ k. Some (suc k))
 
+-- the first that passes, where what stands before it fails
 pub position-some : {X : Type 0} (p : X → Bool) (xs : List X) (i : ℕ) (x : X) → i < length xs → ((k : ℕ) → k < i → (y : X) → y ≡ getD xs k y → p y ≡ false)
     → x ≡ getD xs i x → p x ≡ true → position p xs ≡ Some i
 position-some p [] i x l f r e = absurd (omega arith)
@@ -25,6 +26,7 @@ position-some p (y ∷ xs) (suc i) x l f r e =
     let t : position p xs ≡ Some i = position-some p xs i x (omega arith) (λ k m. f (suc k) (omega arith)) r e in
     rw h (ap one-on t)
 
+-- none passes
 pub position-none : {X : Type 0} (p : X → Bool) (xs : List X) (i : ℕ) → length xs ≤ i → ((k : ℕ) → k < i → (y : X) → y ≡ getD xs k y → p y ≡ false)
     → position p xs ≡ None
 position-none p [] i l f = refl
@@ -63,6 +65,7 @@ position-split p x xs i e = go (p x) refl (position p xs) refl (e)
     go false h None q r = some-none {x = None} (sym (rw (h, q)) ∙ r) refl
     go false h (Some k) q r = inr (h, (k, same-value {x = Some i} refl (sym r ∙ rw (h, q)), q))
 
+-- what stands there passes
 pub position-at : {X : Type 0} (p : X → Bool) (l : List X) (i : ℕ) (d : X) → position p l ≡ Some i → p (getD l i d) ≡ true
 position-at p [] i d e = some-none e refl
 position-at p (x ∷ xs) i d e =
@@ -71,6 +74,7 @@ position-at p (x ∷ xs) i d e =
       | inr q ↦ subst (λ j. p (getD (x ∷ xs) j d) ≡ true) (sym (q .1 .1)) (position-at p xs (q .1 .0) d (q .1 .2))
     ]
 
+-- where none passes, the first fails
 pub position-behind : {X : Type 0} (p : X → Bool) (x : X) (xs : List X) → position p (x ∷ xs) ≡ None → (p x ≡ false) × (position p xs ≡ None)
 position-behind p x xs e = go (p x) refl (position p xs) refl e
   where

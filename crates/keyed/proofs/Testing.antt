@@ -19,9 +19,11 @@ use Rattle.keyed.proofs.Under.{find-under}
 abbrev pub passes : Option ℕ → (ℕ → Bool) → Bool
 passes o q = maybe o false q
 
+-- a test of a key that is known
 taken-of : {o : Option ℕ} {k : ℕ} (q : ℕ → Bool) → o ≡ Some k → passes o q ≡ q k
 taken-of q e = ap (λ o. passes o q) e
 
+-- what is found under s passes
 any-taken-at : {X : Type 0} (key : X → Option ℕ) (q : ℕ → X → Bool) (l : List X) (s : ℕ) (x : X) → find key l s ≡ Some x → q s x ≡ true → any-taken key q l ≡ true
 any-taken-at key q [] s x e t = some-none e refl
 any-taken-at key q (y ∷ ys) s x e t =
@@ -32,10 +34,12 @@ any-taken-at key q (y ∷ ys) s x e t =
       | inr w ↦ or-right _ _ (any-taken-at key q ys s x (sym (ap (λ b. cond b (Some y) (find key ys s)) w) ∙ e) t)
     ]
 
+-- a key that passes is there
 taken-yes : (o : Option ℕ) (q : ℕ → Bool) → passes o q ≡ true → (k : ℕ) × (o ≡ Some k) × (q k ≡ true)
 taken-yes None q e = absurd (false≢true e)
 taken-yes (Some k) q e = (k, refl, e)
 
+-- one that passes is found under its number
 any-taken-where : {X : Type 0} (key : X → Option ℕ) (q : ℕ → X → Bool) (l : List X) → distinct key l ≡ true → any-taken key q l ≡ true
     → (s : ℕ) × (x : X) × (find key l s ≡ Some x) × (q s x ≡ true)
 any-taken-where key q [] a e = absurd (false≢true e)
@@ -69,6 +73,7 @@ any-below-taken {X} key r n l z a u =
     go s None e t = not-both (sym (ap (r s) e) ∙ t) (z s)
     go s (Some x) e t = any-taken-at key (λ s x. r s (Some x)) l s x e (sym (ap (r s) e) ∙ t)
 
+-- one that is taken passes, or none does
 pub any-taken-true : {X : Type 0} (key : X → Option ℕ) (q : ℕ → X → Bool) (l : List X) (i : ℕ) → position (λ x. passes (key x) (λ k. q k x)) l ≡ Some i
     → any-taken key q l ≡ true
 any-taken-true key q [] i e = some-none e refl
@@ -85,6 +90,7 @@ any-taken-false key q (x ∷ xs) e =
     let w = position-behind (λ x. passes (key x) (λ k. q k x)) x xs e in
     ap (λ b. b || any-taken key q xs) (w .0) ∙ any-taken-false key q xs (w .1)
 
+-- free and taken places, tested
 pub taken-free : (o : Option ℕ) → not (isSome o) ≡ true → passes o (λ k. true) ≡ false
 taken-free None e = refl
 taken-free (Some k) e = absurd (false≢true e)

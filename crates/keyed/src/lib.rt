@@ -11,6 +11,7 @@ ghost use lib.ListN.{length};
 ghost use Rattle.std.specs.Options.{isSome};
 ghost use Rattle.std.specs.declared.option.Option.{Option as Maybe};
 ghost use Rattle.std.specs.declared.option.Option.the-variants.{Some, None};
+
 ghost use Rattle.keyed.specs.Keyed.{is-key, position, any-taken};
 
 // A place that is free, or taken under a number.
@@ -31,8 +32,8 @@ pub trait Keyed {
 pub fn place<T: Keyed>(places: &[T], k: usize) -> Option<usize>
     ensures { λ r. ⌜ elim r [ Some i ↦ (i < length (now (places .entry))) × (position (λ x. is-key (T·Keyed .key x) k) (now (places .entry)) ≡ Some i) | None ↦ position (λ x. is-key (T·Keyed .key x) k) (now (places .entry)) ≡ None ] ⌝ }
 {
-    for i in 0..places.len() {
-        if places[i].is_under(k) {
+    for (i, x) in places.iter().enumerate() {
+        if x.is_under(k) {
             return Some(i);
         }
     }
@@ -43,9 +44,9 @@ pub fn place<T: Keyed>(places: &[T], k: usize) -> Option<usize>
 pub fn vacancy<T: Keyed>(places: &[T]) -> Option<usize>
     ensures { λ r. ⌜ elim r [ Some i ↦ (i < length (now (places .entry))) × (position (λ x. not (isSome (T·Keyed .key x))) (now (places .entry)) ≡ Some i) | None ↦ position (λ x. not (isSome (T·Keyed .key x))) (now (places .entry)) ≡ None ] ⌝ }
 {
-    for i in 0..places.len() {
-        if places[i].is_free() {
-            return Some(i);
+    for (free, x) in places.iter().enumerate() {
+        if x.is_free() {
+            return Some(free);
         }
     }
     None
@@ -55,8 +56,8 @@ pub fn vacancy<T: Keyed>(places: &[T]) -> Option<usize>
 pub fn occupied<T: Keyed>(places: &[T]) -> bool
     ensures { λ r. ⌜ r ≡ any-taken (T·Keyed .key) (λ k x. true) (now (places .entry)) ⌝ }
 {
-    for i in 0..places.len() {
-        if !places[i].is_free() {
+    for x in places {
+        if !x.is_free() {
             return true;
         }
     }

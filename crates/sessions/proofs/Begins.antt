@@ -14,6 +14,7 @@ use Rattle.tables.specs.Tables.{Table}
 use Rattle.tables.specs.declared.refusal.Refusal.the-variants.{SessionsFull, NumbersSpent}
 use Rattle.modes.specs.Kind.{Kind}
 use Rattle.rules.proofs.Below.{count-same}
+
 use Rattle.rules.specs.Office.{live-count, begin, refused, number}
 use Rattle.rules.specs.Rules.{Step}
 use Rattle.keyed.proofs.Counting.{counted, count-find, count-room, count-full, count-set}
@@ -30,11 +31,13 @@ use Rattle.sessions.proofs.Parts.{Parts, seen, Kept, kept, begun, Free}
 use Rattle.sessions.proofs.Places.{some-found, seen-begun}
 use Rattle.sessions.proofs.Steps.{refusing, performing, hit, pass, over}
 
+-- the live sessions are the places taken
 pub live-taken : {n : ℕ} (d : Parts) (live image : Table) → Kept n d → live-count (seen d live image) ≡ count-taken session-key (λ _. true) (d .sessions)
 live-taken d live image kept =
     count-same (d .next) (λ s. isSome (seen d live image .sessions s)) (λ s. isSome (find session-key (d .sessions) s)) (λ k l. some-found (find session-key (d .sessions) k))
     ∙ count-find session-key (λ _. true) (d .next) (d .sessions) (kept .numbers) (kept .given)
 
+-- a free place does not count
 free-uncounted : (x : Session) → not (isSome (session-key x)) ≡ true → counted (λ _. true) (session-key x) ≡ 0
 free-uncounted x e = ap (counted (λ _. true)) (free-none (session-key x) e)
 
@@ -48,6 +51,7 @@ begin-full K d live image kept p =
     let f = kept .places in
     refusing K (seen d live image) begin SessionsFull (hit (le-leb 16 (live-count (seen d live image)) (omega (arith, t, l, f))))
 
+-- a place is free: fewer than sixteen sessions are live
 room : {n : ℕ} (d : Parts) (live image : Table) (i : ℕ) → Kept n d → Free d i → leb 16 (live-count (seen d live image)) ≡ false
 room d live image i kept p =
     let t : count-taken session-key (λ _. true) (d .sessions) < length (d .sessions) =
@@ -62,6 +66,7 @@ pub begin-spent : {n : ℕ} (K : Kind) (d : Parts) (live image : Table) (i : ℕ
 begin-spent K d live image i kept p h =
     refusing K (seen d live image) begin NumbersSpent (pass (room d live image i kept p) (hit (lt-ltb 4_000_000_000 (d .next) h)))
 
+-- the session begins
 pub begin-done : {n : ℕ} (K : Kind) (d : Parts) (live image : Table) (i : ℕ) → Kept n d → Free d i → d .next ≤ 4_000_000_000
     → {y : Session} → y ≡ begun-session (d .next) → Step K (seen d live image) begin (number (d .next)) (seen (begun d i y) live image)
 begin-done K d live image i kept p h q =
@@ -69,6 +74,7 @@ begin-done K d live image i kept p h q =
     (pass (room d live image i kept p) (pass (le-ltb 4_000_000_000 (d .next) h) over))
     (ap (λ y. (number (d .next), seen (begun d i y) live image)) q ∙ ap (λ o. (number (d .next), o)) (seen-begun d live image i kept p))
 
+-- a begin keeps what the table keeps
 pub begin-kept : {n : ℕ} (d : Parts) (i : ℕ) → i < length (d .sessions) → d .next ≤ 4_000_000_000 → Kept n d → Free d i → {y : Session} → y ≡ begun-session (d .next) → Kept n (begun d i y)
 begin-kept {n} d i il nl kept p q =
     let y = begun-session (d .next) in
@@ -91,14 +97,17 @@ begin-kept {n} d i il nl kept p q =
 
 -- ── a new table ──
 
+-- a mark that was never made
 pub unmarked : (n e : ℕ) → getD (replicate n false) e false ≡ false
 unmarked zero e = refl
 unmarked (suc n) zero = refl
 unmarked (suc n) (suc e) = unmarked n e
 
+-- the parts of a new table, its places all x
 abbrev pub new-parts : Session → ℕ → Parts
 new-parts x first = record { sessions = replicate 16 x; next = first; hand = first; round = false; copied = replicate 128 false }
 
+-- the office of a new table
 pub seen-new : {x : Session} → x ≡ free-session → (first : ℕ) (live image : Table) → seen (new-parts x first) live image ≡ empty-office first live image
 seen-new q first live image =
     ap (λ x. seen (new-parts x first) live image) q

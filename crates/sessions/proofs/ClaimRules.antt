@@ -45,6 +45,7 @@ use Rattle.sessions.proofs.Steps.{Falls, refusing, performing, is-below, is-pa
 abbrev other : ℕ → ℕ → Bool
 other e j = not (eqb j e)
 
+-- the entries other than e that the session holds are its holds taken for others
 others-taken : (d : Parts) (live image : Table) (s i e : ℕ) → i < length (d .sessions) → Kept (length live) d → At d s i
     → others-held (seen d live image) s e ≡ count-taken hold-key (other e) (session-in d i .holds)
 others-taken d live image s i e h kept p =
@@ -53,6 +54,7 @@ others-taken d live image s i e h kept p =
     (λ j l. ap (λ z. not (eqb j e) && isSome (z .mode j)) (session-at d live image s i p) ∙ ap (λ b. not (eqb j e) && b) (some-mode (find hold-key (session-in d i .holds) j)))
     ∙ count-find hold-key (other e) (length live) (session-in d i .holds) (w .entries) (w .below)
 
+-- no hold is e's and none is free
 holds-full : (d : Parts) (live image : Table) (s i e : ℕ) → i < length (d .sessions) → Kept (length live) d → At d s i → hold-place (session-in d i .holds) e ≡ None
     → leb 8 (others-held (seen d live image) s e) ≡ true
 holds-full d live image s i e h kept p q =
@@ -64,12 +66,15 @@ holds-full d live image s i e h kept p q =
     let o = others-taken d live image s i e h kept p in
     le-leb 8 (others-held (seen d live image) s e) (omega (arith, t, o, w))
 
+-- the own hold and a free one do not count
 own-uncounted : (e : ℕ) (x : Hold) → is-key (hold-key x) e ≡ true → counted (other e) (hold-key x) ≡ 0
 own-uncounted e x h = ap (counted (other e)) (is-key-true (hold-key x) e h) ∙ ap (λ b. one-if (not b)) (eqb-self e)
 
+-- a free place does not count
 free-uncounted : (e : ℕ) (x : Hold) → not (isSome (hold-key x)) ≡ true → counted (other e) (hold-key x) ≡ 0
 free-uncounted e x h = ap (counted (other e)) (free-none (hold-key x) h)
 
+-- there is a hold for e
 holds-room : (d : Parts) (live image : Table) (s i e k : ℕ) → i < length (d .sessions) → Kept (length live) d → At d s i → hold-place (session-in d i .holds) e ≡ Some k
     → leb 8 (others-held (seen d live image) s e) ≡ false
 holds-room d live image s i e k h kept p q =
@@ -85,10 +90,12 @@ holds-room d live image s i e k h kept p q =
 
 -- ── conflicts ──
 
+-- a test and one that fails
 and-false-right : (b : Bool) → (b && false) ≡ false
 and-false-right true = refl
 and-false-right false = refl
 
+-- the sessions in conflict are found among the places taken
 conflicts-taken : {n : ℕ} (K : Kind) (d : Parts) (live image : Table) (s e w : ℕ) → Kept n d
     → conflicts K (seen d live image) s e w ≡ any-taken session-key (conflicting (K .conflict w) s e) (d .sessions)
 conflicts-taken K d live image s e w kept =
@@ -97,6 +104,7 @@ conflicts-taken K d live image s e w kept =
 
 -- ── the round's verdict ──
 
+-- the rules' tests of a claim in a round
 abbrev paused? : Bool → Side → Bool → Bool
 paused? b s c = b && (is-after (side-of s) && not c)
 
@@ -109,6 +117,7 @@ Says (Grant t) b s c = (paused? b s c ≡ false) × (ended? b s c ≡ false) × 
 Says Pause b s c = paused? b s c ≡ true
 Says End b s c = (paused? b s c ≡ false) × (ended? b s c ≡ true)
 
+-- each verdict is what the tests say
 verdict-says : (b : Bool) (s : Side) (c : Bool) → Says (verdict-of b s c) b s c
 verdict-says false s c = (refl, refl, refl)
 verdict-says true Neither true = (refl, refl, refl)
@@ -118,6 +127,7 @@ verdict-says true Before false = (refl, refl, refl)
 verdict-says true After true = (refl, refl, refl)
 verdict-says true After false = refl
 
+-- entry e is copied
 abbrev mark : Parts → ℕ → Bool
 mark d e = getD (d .copied) e false
 
@@ -125,6 +135,7 @@ mark d e = getD (d .copied) e false
 abbrev pub Verdict-is : Parts → ℕ → ℕ → Verdict → Type 0
 Verdict-is d i e v = v ≡ verdict-of (d .round) (session-in d i .side) (mark d e)
 
+-- the same of the verdict that was given
 said : (d : Parts) (i e : ℕ) (v : Verdict) → Verdict-is d i e v → Says v (d .round) (session-in d i .side) (mark d e)
 said d i e v q = subst (λ v. Says v (d .round) (session-in d i .side) (mark d e)) (sym q) (verdict-says (d .round) (session-in d i .side) (mark d e))
 
@@ -259,6 +270,7 @@ claim-kept K n d s e m i k w t kl a =
       fitting = every-set fits l k h (every-at fits l k no-hold (omega arith) (g .fitting)) (g .fitting);
     })
 
+-- from the checks of a claim
 pub asked : (K : Kind) (t : SessionTable) (s e m i k w : ℕ) → (i < length (t .sessions)) × At (parts t) s i → e < t .entries → m < K .modes
     → (k < 8) × (hold-place (session-in (parts t) i .holds) e ≡ Some k) → w ≡ wanted K m (mode-of (find hold-key (session-in (parts t) i .holds) e))
     → Asked K (t .entries) (parts t) s e m i k w

@@ -43,6 +43,7 @@ use Rattle.sessions.proofs.Steps.{refusing, performing, hit, pass, over}
 abbrev stamped : ℕ → Hold → Entry → Entry
 stamped k h x = of (take (h .len) (h .text)) (min (suc (x .edition)) k) k
 
+-- a put keeps the count
 pub length-put-hold : (k : ℕ) (h : Hold) (t : Table) → length (put-hold k h t) ≡ length t
 length-put-hold k h t = go (is-written h)
   where
@@ -112,10 +113,12 @@ put-each k l t a =
 
 -- ── whether the session wrote ──
 
+-- the hold that is there keeps a text
 abbrev has-text : Option Hold → Bool
 has-text None = false
 has-text (Some h) = h .wrote
 
+-- a text is there where the session wrote
 some-text : (o : Option Hold) → isSome (text-of o) ≡ has-text o
 some-text None = refl
 some-text (Some h) = go (h .wrote)
@@ -132,17 +135,21 @@ written-taken h = go (h .taken)
     go true = refl
     go false = refl
 
+-- one of a session's holds keeps a text
 abbrev wrote-any : Session → Bool
 wrote-any x = any-taken hold-key (λ k h. h .wrote) (x .holds)
 
 -- ── the parts after a commit ──
 
+-- the session x in place i, and the next hand
 abbrev pub committed : Parts → ℕ → ℕ → Session → Parts
 committed d hand i x = record { sessions = set (d .sessions) i x; next = d .next; hand = hand; round = d .round; copied = d .copied }
 
+-- the next hand after a commit
 abbrev pub hand-then : Parts → ℕ → ℕ
 hand-then d i = cond (any-taken hold-key (λ k h. h .wrote) (session-in d i .holds)) (suc (d .hand)) (d .hand)
 
+-- the office after a commit
 seen-committed : (d : Parts) (live image : Table) (s i : ℕ) → i < length (d .sessions) → Kept (length live) d → At d s i
     → seen (committed d (hand-then d i) i (ended-session (session-in d i))) (put-holds (d .hand) (session-in d i .holds) live) image ≡ after-commit (seen d live image) s
 seen-committed d live image s i il kept p =
@@ -163,6 +170,7 @@ seen-committed d live image s i il kept p =
     texts : (e : ℕ) → isSome (session (seen d live image) s .text e) ≡ has-text (find hold-key (session-in d i .holds) e)
     texts e = ap (λ z. isSome (z .text e)) (session-at d live image s i p) ∙ some-text (find hold-key (session-in d i .holds) e)
 
+-- no session has the number
 pub commit-nowhere : (K : Kind) (t : SessionTable) (live image : Table) (s : ℕ) → Nowhere (parts t) s
     → Step K (seen (parts t) live image) (commit s) (refused NoSession) (seen (parts t) (put-written t s live) image)
 commit-nowhere K t live image s p =
@@ -170,6 +178,7 @@ commit-nowhere K t live image s p =
     (sym (find-missing session-key (t .sessions) s p))
     (refusing K (seen (parts t) live image) (commit s) NoSession (hit (is-nowhere (parts t) live image s p)))
 
+-- the texts are put, and the session ends
 pub commit-done : (K : Kind) (t : SessionTable) (live image : Table) (s i : ℕ) → length live ≡ t .entries → i < length (t .sessions) → At (parts t) s i
     → {hand : ℕ} {x : Session} → hand ≡ hand-then (parts t) i → x ≡ ended-session (session-in (parts t) i)
     → Step K (seen (parts t) live image) (commit s) done (seen (committed (parts t) hand i x) (put-written t s live) image)
@@ -184,6 +193,7 @@ commit-done K t live image s i n il p {hand} {x} q r =
 
 -- ── the hands ──
 
+-- one session less is live
 one-less : (d : Parts) (s i : ℕ) → i < length (d .sessions) → At d s i
     → count-taken session-key (λ _. true) (set (d .sessions) i (ended-session (session-in d i))) + 1 ≡ count-taken session-key (λ _. true) (d .sessions)
 one-less d s i h p =
@@ -197,10 +207,12 @@ hand-left d s i il kept p =
     let t = one-less d s i il p in
     omega (arith, t, kept .hands, kept .last)
 
+-- a commit spends one hand at most
 one-more : (b : Bool) (h : ℕ) → cond b (suc h) h ≤ h + 1
 one-more true h = omega arith
 one-more false h = omega arith
 
+-- a commit keeps what the table keeps
 pub commit-kept : {n : ℕ} (d : Parts) (s i : ℕ) → i < length (d .sessions) → Kept n d → At d s i
     → {hand : ℕ} {x : Session} → hand ≡ hand-then d i → x ≡ ended-session (session-in d i) → Kept n (committed d hand i x)
 commit-kept {n} d s i il kept p {hand} {x} q r =

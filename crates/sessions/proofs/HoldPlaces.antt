@@ -41,6 +41,7 @@ first-none : (a b : Option ℕ) → maybe a b Some ≡ None → (a ≡ None) × 
 first-none None b e = (refl, e)
 first-none (Some j) b e = some-none {x = Some j} refl e
 
+-- the place is the own one, or the first free one; or there is neither
 pub place-cases : (l : List Hold) (e k : ℕ) → hold-place l e ≡ Some k
     → (position (λ h. is-key (hold-key h) e) l ≡ Some k) ⊎ ((position (λ h. is-key (hold-key h) e) l ≡ None) × (position (λ h. not (isSome (hold-key h))) l ≡ Some k))
 place-cases l e k = first-some (position (λ h. is-key (hold-key h) e) l) (position (λ h. not (isSome (hold-key h))) l) k

@@ -19,10 +19,12 @@ use Rattle.sessions.proofs.Parts.{Parts, seen, Kept, kept, with-place, session
 use Rattle.sessions.proofs.Places.{seen-ended, is-nowhere, is-at}
 use Rattle.sessions.proofs.Steps.{refusing, performing, hit, pass, over}
 
+-- no session has the number
 pub leave-nowhere : (K : Kind) (d : Parts) (live image : Table) (s : ℕ) → Nowhere d s
     → Step K (seen d live image) (leave s) (refused NoSession) (seen d live image)
 leave-nowhere K d live image s p = refusing K (seen d live image) (leave s) NoSession (hit (is-nowhere d live image s p))
 
+-- the session ends
 pub leave-done : {n : ℕ} (K : Kind) (d : Parts) (live image : Table) (s i : ℕ) → Kept n d → At d s i
     → Step K (seen d live image) (leave s) done (seen (with-place d i (ended-session (session-in d i))) live image)
 leave-done K d live image s i kept p =

@@ -8,6 +8,7 @@ use Rattle.std.specs.Options.{isSome}
 use Rattle.std.specs.declared.option.Option.the-variants.{None, Some}
 use Rattle.tables.specs.Tables.{Table}
 use Rattle.modes.specs.Kind.{Kind}
+
 use Rattle.rules.specs.Office.{Office, Call, Answer}
 use Rattle.rules.specs.Rules.{Step}
 use Rattle.keyed.specs.Keyed.{is-key, position, find, count-taken, distinct, all-under, every}
@@ -58,6 +59,7 @@ pub record Kept (n : ℕ) (d : Parts) : Type 0 where
   pub last : d .next ≤ 4_000_000_001
   pub hands : d .hand + count-taken session-key (λ _. true) (d .sessions) ≤ d .next
 
+-- what the ghost fields say
 pub kept : (t : SessionTable) → Kept (t .entries) (parts t)
 kept t =
     record {

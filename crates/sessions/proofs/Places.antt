@@ -23,6 +23,7 @@ use Rattle.sessions.specs.declared.session.Session.{Session}
 use Rattle.sessions.proofs.Ext.{office-ext}
 use Rattle.sessions.proofs.Parts.{Parts, seen, Kept, kept, with-place, begun, session-in, At, Nowhere, Free}
 
+-- a session or a hold is there, or not
 pub some-found : (o : Option Session) → isSome (found-session o) ≡ isSome o
 some-found None = refl
 some-found (Some x) = refl
@@ -31,6 +32,7 @@ pub some-mode : (o : Option Hold) → isSome (mode-of o) ≡ isSome o
 some-mode None = refl
 some-mode (Some x) = refl
 
+-- a function of a choice
 pub ap-cond : {A B : Type 0} (f : A → B) (b : Bool) (x y : A) → f (cond b x y) ≡ cond b (f x) (f y)
 ap-cond f true x y = refl
 ap-cond f false x y = refl

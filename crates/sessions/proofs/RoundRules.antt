@@ -36,6 +36,7 @@ use Rattle.sessions.proofs.Steps.{refusing, performing, is-below, is-past, hit
 
 -- ── the parts after each call ──
 
+-- after an open, a drop, and the copy of e
 abbrev pub opened : Parts → List Session → Parts
 opened d l = record { sessions = l; next = d .next; hand = d .hand; round = true; copied = replicate 128 false }
 
@@ -51,6 +52,7 @@ marked d e = record { sessions = d .sessions; next = d .next; hand = d .hand; ro
 holds-some : (n : ℕ) (x : Session) → Sound n x → any-below n (λ e. isSome (session-of x .mode e)) ≡ any-taken hold-key (λ k h. true) (x .holds)
 holds-some n x g = any-below-taken hold-key (λ e h. isSome (mode-of h)) n (x .holds) (λ e. refl) (g .entries) (g .below)
 
+-- the office after an open
 seen-opened : (d : Parts) (live image : Table) → Kept (length live) d → seen (opened d (map at-open (d .sessions))) live image ≡ after-open (seen d live image)
 seen-opened d live image kept =
     office-ext (seen (opened d (map at-open (d .sessions))) live image) (after-open (seen d live image)) refl refl
@@ -92,12 +94,14 @@ mapped-kept {n} d f b marks m k s kept =
       hands = let t = count-map session-key (λ _. true) f (d .sessions) k in let r = kept .hands in omega (arith, t, r);
     }
 
+-- an open keeps what the table keeps
 pub opened-kept : {n : ℕ} (d : Parts) → Kept n d → {l : List Session} → l ≡ map at-open (d .sessions) → Kept n (opened d l)
 opened-kept {n} d kept q =
     subst (λ l. Kept n (opened d l)) (sym q) (mapped-kept d at-open true (replicate 128 false) (length-replicate 128 false) (λ x. refl) (λ x. refl) kept)
 
 -- ── drop ──
 
+-- the office after a drop
 seen-dropped : (d : Parts) (live image : Table) → seen (dropped d (map without-side (d .sessions))) live image ≡ after-round (seen d live image)
 seen-dropped d live image =
     office-ext (seen (dropped d (map without-side (d .sessions))) live image) (after-round (seen d live image)) refl refl
@@ -117,17 +121,20 @@ module _ (K : Kind) (d : Parts) (live image : Table) where
       performing K (seen d live image) drop-round done (seen (dropped d l) live image) (pass (ap not r) over)
       (ap (λ l. (done, seen (dropped d l) live image)) q ∙ ap (λ o. (done, o)) (seen-dropped d live image))
 
+-- a drop keeps what the table keeps
 pub dropped-kept : {n : ℕ} (d : Parts) → Kept n d → {l : List Session} → l ≡ map without-side (d .sessions) → Kept n (dropped d l)
 dropped-kept {n} d kept q =
     subst (λ l. Kept n (dropped d l)) (sym q) (mapped-kept d without-side false (d .copied) (kept .marks) (λ x. refl) (λ x. refl) kept)
 
 -- ── copy ──
 
+-- the entry is held by a session in a place taken
 pub held-taken : {n : ℕ} (d : Parts) (live image : Table) (e : ℕ) → Kept n d
     → is-held (seen d live image) e ≡ any-taken session-key (holds-entry e) (d .sessions)
 held-taken d live image e kept =
     any-below-taken session-key (λ k q. isSome (valueOr (found-session q) new-session .mode e)) (d .next) (d .sessions) (λ k. refl) (kept .numbers) (kept .given)
 
+-- the office after a copy
 pub seen-marked : (d : Parts) (live image : Table) (e : ℕ) → e < length (d .copied)
     → seen (marked d e) live (set image e (entry live e)) ≡ after-copy (seen d live image) e
 seen-marked d live image e h =
@@ -139,6 +146,7 @@ seen-marked d live image e h =
       | inr q ↦ getD-set-other (d .copied) e j true false (q .1) ∙ sym (ap (λ b. cond b true (getD (d .copied) j false)) (q .0))
     ])
 
+-- a mark keeps what the table keeps
 pub marked-kept : {n : ℕ} (d : Parts) (e : ℕ) → Kept n d → Kept n (marked d e)
 marked-kept d e kept =
     record {
@@ -179,6 +187,7 @@ module _ (K : Kind) (d : Parts) (live image : Table) (e : ℕ) where
 
 -- ── next ──
 
+-- the lowest that passes: none, the first found, the same for equal tests
 pub lowest-none : (n : ℕ) (p : ℕ → Bool) (i : ℕ) → n ≤ i → ((k : ℕ) → k < i → p k ≡ false) → lowest n p ≡ None
 lowest-none zero p i l f = refl
 lowest-none (suc n) p i l f =
@@ -199,6 +208,7 @@ lowest-same zero p q f = refl
 lowest-same (suc n) p q f =
     ap (λ o. orOther o (cond (p n) (Some n) None)) (lowest-same n p q f) ∙ ap (λ b. orOther (lowest n q) (cond b (Some n) None)) (f n)
 
+-- what next names
 pub next-copyable : (t : SessionTable) (live image : Table) → length live ≡ t .entries → next-of (view t live image) ≡ lowest (t .entries) (copyable t)
 next-copyable t live image n =
     ap (λ m. lowest m (λ e. not (getD (t .copied) e false) && not (is-held (view t live image) e))) n

@@ -27,6 +27,7 @@ pub record Sound (n : ℕ) (x : Session) : Type 0 where
   pub below : all-under hold-key n (x .holds) ≡ true
   pub fitting : every fits (x .holds) ≡ true
 
+-- from the test to its parts, and back
 pub to-sound : (n : ℕ) (x : Session) → sound-session n x ≡ true → Sound n x
 to-sound n x e =
     let a = and-true _ _ e in
@@ -37,6 +38,7 @@ to-sound n x e =
 pub from-sound : (n : ℕ) (x : Session) → Sound n x → sound-session n x ≡ true
 from-sound n x h = and-both (eq-eqb (length (x .holds)) 8 (h .eight)) (and-both (h .entries) (and-both (h .below) (h .fitting)))
 
+-- the session in a place is sound
 pub sound-in : {n : ℕ} (d : Parts) (i : ℕ) → i < length (d .sessions) → Kept n d → Sound n (session-in d i)
 sound-in {n} d i h kept = to-sound n (session-in d i) (every-at (sound-session n) (d .sessions) i no-session h (kept .sound))
 

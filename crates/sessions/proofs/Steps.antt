@@ -19,6 +19,7 @@ pub data Falls : List (Bool × Refusal) → Option Refusal → Type 0 where
   pass : {b : Bool} {r : Refusal} {ds : List (Bool × Refusal)} {x : Option Refusal} → b ≡ false → Falls ds x → Falls ((b, r) ∷ ds) x
   over : Falls [] None
 
+-- that decides which refusal is the first
 pub first-falls : (ds : List (Bool × Refusal)) (x : Option Refusal) → Falls ds x → first-of ds ≡ x
 first-falls _ _ (hit {b} {r} {ds} e) = ap (λ c. cond c (Some r) (first-of ds)) e
 first-falls _ _ (pass {b} {r} {ds} {x} e f) = ap (λ c. cond c (Some r) (first-of ds)) e ∙ first-falls ds x f

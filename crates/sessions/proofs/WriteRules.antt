@@ -61,6 +61,7 @@ module _ (K : Kind) (d : Parts) (live image : Table) (s e : ℕ) (t : Text) wher
 abbrev pub written-session : Session → ℕ → Text → Session
 written-session x k t = with-hold x k (written-hold (getD (x .holds) k no-hold) t) (x .side)
 
+-- the office after the write
 pub seen-written : (d : Parts) (live image : Table) (s i e k : ℕ) (t : Text) → At d s i → Held-at (session-in d i) e k
     → seen (with-place d i (written-session (session-in d i) k t)) live image ≡ after-write (seen d live image) s e t
 seen-written d live image s i e k t p q =
@@ -87,6 +88,7 @@ seen-written d live image s i e k t p q =
     ∙ sym (ap (λ z. cond (eqb j e) (Some t) (z .text j)) z)) in
     seen-changed d live image s i (written-session (session-in d i) k t) (position-key session-key (d .sessions) s i no-session p) p ∙ ap (λ x. with-session o s (Some x)) same
 
+-- the text is kept
 pub write-done : (K : Kind) (d : Parts) (live image : Table) (s e : ℕ) (t : Text) (i k : ℕ) → At d s i → e < length live → Held-at (session-in d i) e k
     → K .writes (getD (session-in d i .holds) k no-hold .mode) ≡ true → length t ≤ 96
     → Step K (seen d live image) (write s e t) done (seen (with-place d i (written-session (session-in d i) k t)) live image)
@@ -95,6 +97,7 @@ write-done K d live image s e t i k p h q w l =
     (pass (is-at d live image s i p) (pass (is-below h) (pass (holds-in d live image s i e k (K .writes) p q w) (pass (le-ltb 96 (length t) l) over))))
     (ap (λ o. (done, o)) (seen-written d live image s i e k t p q))
 
+-- a write keeps what the table keeps
 pub write-kept : {n : ℕ} (d : Parts) (s i e k : ℕ) (t : Text) → i < length (d .sessions) → k < 8 → Kept n d → At d s i → Held-at (session-in d i) e k → e < n → length t ≤ 96
     → Kept n (with-place d i (written-session (session-in d i) k t))
 write-kept {n} d s i e k t il kl kept p q h l =

@@ -32,7 +32,7 @@ session-key x = cond (x .live) (Some (x .number)) None
 abbrev pub fits : Hold → Bool
 fits h = leb (h .len) 96 && eqb (length (h .text)) 96
 
--- eight holds, of distinct entries below n
+-- eight holds, of distinct entries below n, whose texts fit
 abbrev pub sound-session : ℕ → Session → Bool
 sound-session n x =
     eqb (length (x .holds)) 8

@@ -36,8 +36,8 @@ fn conflicts_with<K: Modes>(kinds: &K, session: &Session, s: usize, e: usize, wa
 fn conflicts<K: Modes>(kinds: &K, sessions: &[Session], s: usize, e: usize, wanted: u8) -> bool
     ensures { λ r. ⌜ r ≡ any-taken session-key (conflicting (K·Modes .kind .conflict wanted) s e) (now (sessions .entry)) ⌝ }
 {
-    for i in 0..sessions.len() {
-        if conflicts_with(kinds, &sessions[i], s, e, wanted) {
+    for session in sessions {
+        if conflicts_with(kinds, session, s, e, wanted) {
             return true;
         }
     }

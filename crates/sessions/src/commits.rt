@@ -22,8 +22,8 @@ use tables::Refusal;
 fn any_written(holds: &[Hold]) -> bool
     ensures { λ r. ⌜ r ≡ any-taken hold-key (λ k h. h .wrote) (now (holds .entry)) ⌝ }
 {
-    for i in 0..holds.len() {
-        if holds[i].is_written() {
+    for hold in holds {
+        if hold.is_written() {
             return true;
         }
     }

@@ -22,8 +22,8 @@ use tables::Refusal;
 fn take_sides(sessions: &mut [Session])
     ensures { λ _. ⌜ now (sessions .exit) ≡ map at-open (now (sessions .entry)) ⌝ }
 {
-    for i in 0..sessions.len() {
-        sessions[i].take_side();
+    for session in sessions.iter_mut() {
+        session.take_side();
     }
 }
 
@@ -31,8 +31,8 @@ fn take_sides(sessions: &mut [Session])
 fn leave_sides(sessions: &mut [Session])
     ensures { λ _. ⌜ now (sessions .exit) ≡ map without-side (now (sessions .entry)) ⌝ }
 {
-    for i in 0..sessions.len() {
-        sessions[i].leave_side();
+    for session in sessions.iter_mut() {
+        session.leave_side();
     }
 }
 
@@ -40,8 +40,8 @@ fn leave_sides(sessions: &mut [Session])
 fn is_held(sessions: &[Session], e: usize) -> bool
     ensures { λ r. ⌜ r ≡ any-taken session-key (holds-entry e) (now (sessions .entry)) ⌝ }
 {
-    for i in 0..sessions.len() {
-        if sessions[i].holds_entry(e) {
+    for session in sessions {
+        if session.holds_entry(e) {
             return true;
         }
     }
@@ -139,11 +139,11 @@ impl SessionTable {
         ensures within { λ r. ⌜ elim r [ Some e ↦ e < now (self .entry) .entries | None ↦ Unit {0} ] ⌝ }
         ensures same { λ _. ⌜ now (self .exit) .entries ≡ now (self .entry) .entries ⌝ }
     {
-        let Some(e) = self.next_entry() else {
+        let Some(next) = self.next_entry() else {
             return None;
         };
-        self.copied[e] = true;
-        Some(e)
+        self.copied[next] = true;
+        Some(next)
     }
 
     // How many entries are uncopied.

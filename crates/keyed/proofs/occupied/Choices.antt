@@ -5,5 +5,5 @@ use lib.ListN.{getD}
 use Rattle.keyed.proofs.Testing.{passes}
 use Rattle.keyed.proofs.occupied.Given as given
 
-abbrev pub Inv-loop-i : given.InvT-loop-i
-Inv-loop-i g l = (j : ℕ) → j < l .i → (y : _) → y ≡ getD (l .places) j y → passes (g .T·Keyed .key y) (λ k. true) ≡ false
+abbrev pub Inv-loop-x : given.InvT-loop-x
+Inv-loop-x g l = (j : ℕ) → j < l .x-index → (y : _) → y ≡ getD (l .places) j y → passes (g .T·Keyed .key y) (λ k. true) ≡ false

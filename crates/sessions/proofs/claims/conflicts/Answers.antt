@@ -9,14 +9,14 @@ use Rattle.sessions.proofs.claims.conflicts.Needs as need
 pub returns-then-conflicts-with : need.returns-then-conflicts-with
 returns-then-conflicts-with g c =
     let q = conflicting (g .K·Modes .kind .conflict (c .args .wanted)) (c .args .s) (c .args .e) in
-    sym (any-taken-true session-key q (c .args .sessions .now) (c .loop-i .i)
-    (position-found (λ x. passes (session-key x) (λ k. q k x)) no-session (c .args .sessions .now) (c .loop-i .i) (c .loop-i-test .taken) (c .loop-i .inv) (sym (c .if-conflicts-with .ensures tt))))
+    sym (any-taken-true session-key q (c .args .sessions .now) (c .loop-session .session-index)
+    (position-found (λ x. passes (session-key x) (λ k. q k x)) no-session (c .args .sessions .now) (c .loop-session .session-index) (c .loop-session-test .taken) (c .loop-session .inv) (sym (c .if-conflicts-with .ensures tt))))
 
-pub loop-i-again : need.loop-i-again
-loop-i-again g c = below-more _ _ (c .loop-i .inv) (sym (c .if-conflicts-with .ensures tt))
+pub loop-session-again : need.loop-session-again
+loop-session-again g c = below-more _ _ (c .loop-session .inv) (sym (c .if-conflicts-with .ensures tt))
 
 pub returns : need.returns
 returns g c =
     let q = conflicting (g .K·Modes .kind .conflict (c .args .wanted)) (c .args .s) (c .args .e) in
     sym (any-taken-false session-key q (c .args .sessions .now)
-    (position-nowhere (λ x. passes (session-key x) (λ k. q k x)) no-session (c .args .sessions .now) (c .loop-i .i) (c .loop-i-test .left) (c .loop-i .inv)))
+    (position-nowhere (λ x. passes (session-key x) (λ k. q k x)) no-session (c .args .sessions .now) (c .loop-session .session-index) (c .loop-session-test .left) (c .loop-session .inv)))

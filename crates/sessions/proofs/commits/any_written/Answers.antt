@@ -10,15 +10,15 @@ use Rattle.sessions.proofs.commits.any_written.Needs as need
 pub returns-then-is-written : need.returns-then-is-written
 returns-then-is-written c =
     let l = c .args .holds .now in
-    let i = c .loop-i .i in
+    let i = c .loop-hold .hold-index in
     sym (any-taken-true hold-key (λ k h. h .wrote) l i
-    (position-found (λ h. passes (hold-key h) (λ k. h .wrote)) no-hold l i (c .loop-i-test .taken) (c .loop-i .inv) (written-taken (getD l i no-hold) ∙ sym (c .if-is-written .ensures tt))))
+    (position-found (λ h. passes (hold-key h) (λ k. h .wrote)) no-hold l i (c .loop-hold-test .taken) (c .loop-hold .inv) (written-taken (getD l i no-hold) ∙ sym (c .if-is-written .ensures tt))))
 
-pub loop-i-again : need.loop-i-again
-loop-i-again c = below-more _ _ (c .loop-i .inv) (written-taken (getD (c .args .holds .now) (c .loop-i .i) no-hold) ∙ sym (c .if-is-written .ensures tt))
+pub loop-hold-again : need.loop-hold-again
+loop-hold-again c = below-more _ _ (c .loop-hold .inv) (written-taken (getD (c .args .holds .now) (c .loop-hold .hold-index) no-hold) ∙ sym (c .if-is-written .ensures tt))
 
 pub returns : need.returns
 returns c =
     let l = c .args .holds .now in
     sym (any-taken-false hold-key (λ k h. h .wrote) l
-    (position-nowhere (λ h. passes (hold-key h) (λ k. h .wrote)) no-hold l (c .loop-i .i) (c .loop-i-test .left) (c .loop-i .inv)))
+    (position-nowhere (λ h. passes (hold-key h) (λ k. h .wrote)) no-hold l (c .loop-hold .hold-index) (c .loop-hold-test .left) (c .loop-hold .inv)))

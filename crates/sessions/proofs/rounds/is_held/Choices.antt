@@ -7,5 +7,5 @@ use Rattle.sessions.specs.Sessions.{session-key, no-session}
 use Rattle.sessions.specs.View.{holds-entry}
 use Rattle.sessions.proofs.rounds.is_held.Given as given
 
-abbrev pub Inv-loop-i : given.InvT-loop-i
-Inv-loop-i l = (j : ℕ) → j < l .i → maybe (session-key (getD (l .sessions) j no-session)) false (λ k. holds-entry (l .e) k (getD (l .sessions) j no-session)) ≡ false
+abbrev pub Inv-loop-session : given.InvT-loop-session
+Inv-loop-session l = (j : ℕ) → j < l .session-index → maybe (session-key (getD (l .sessions) j no-session)) false (λ k. holds-entry (l .e) k (getD (l .sessions) j no-session)) ≡ false

@@ -8,18 +8,18 @@ use Rattle.std.proofs.shelf.Lists.{getD-default, take-all, drop-all, append-nil
 use Rattle.sessions.specs.Sessions.{no-session, without-side}
 use Rattle.sessions.proofs.rounds.leave_sides.Needs as need
 
-pub loop-i-again : need.loop-i-again
-loop-i-again c =
+pub loop-session-again : need.loop-session-again
+loop-session-again c =
     let xs = c .args .sessions .now in
-    let ys = c .loop-i .sessions in
-    let i = c .loop-i .i in
+    let ys = c .loop-session .sessions in
+    let i = c .loop-session .session-index in
     let x = getD ys i no-session in
     let h : i < length ys = omega arith in
     let k : i < length xs = omega arith in
-    ap (set ys i) (c .leave-side .ensures) ∙ map-over-more without-side xs ys i x k (c .loop-i .inv) (getD-default ys i no-session x h)
+    ap (set ys i) (c .leave-side .ensures) ∙ map-over-more without-side xs ys i x k (c .loop-session .inv) (getD-default ys i no-session x h)
 
 pub returns : need.returns
 returns c =
     let xs = c .args .sessions .now in
-    let i = c .loop-i .i in
-    c .loop-i .inv ∙ ap (λ t. map without-side t ++ drop i xs) (take-all i xs (omega arith)) ∙ ap (λ t. map without-side xs ++ t) (drop-all i xs (omega arith)) ∙ append-nil (map without-side xs)
+    let i = c .loop-session .session-index in
+    c .loop-session .inv ∙ ap (λ t. map without-side t ++ drop i xs) (take-all i xs (omega arith)) ∙ ap (λ t. map without-side xs ++ t) (drop-all i xs (omega arith)) ∙ append-nil (map without-side xs)

@@ -4,5 +4,5 @@ use lib.ListN.{take, drop}
 use Rattle.sessions.specs.Sessions.{without-side}
 use Rattle.sessions.proofs.rounds.leave_sides.Given as given
 
-abbrev pub Inv-loop-i : given.InvT-loop-i
-Inv-loop-i l = l .sessions ≡ map without-side (take (l .i) (l .entry .sessions)) ++ drop (l .i) (l .entry .sessions)
+abbrev pub Inv-loop-session : given.InvT-loop-session
+Inv-loop-session l = l .sessions ≡ map without-side (take (l .session-index) (l .entry .sessions)) ++ drop (l .session-index) (l .entry .sessions)

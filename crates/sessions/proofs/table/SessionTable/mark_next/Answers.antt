@@ -19,10 +19,10 @@ returns-in-rest c =
 pub returns : need.returns
 returns c =
     let t = c .args .self .now in
-    let h : c .in-Some .e < length (t .copied) = omega (arith, c .in-Some .ensures tt .within, t .few, t .marks) in
+    let h : c .in-Some .next < length (t .copied) = omega (arith, c .in-Some .ensures tt .within, t .few, t .marks) in
     record {
       next = λ live image n. c .in-Some .ensures tt .is ∙ sym (next-copyable t live image n);
-      mark = λ live image n. seen-marked (parts t) live image (c .in-Some .e) h;
+      mark = λ live image n. seen-marked (parts t) live image (c .in-Some .next) h;
       within = c .in-Some .ensures tt .within;
       same = refl;
     }
