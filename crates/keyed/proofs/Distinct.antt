@@ -9,7 +9,6 @@ use lib.Dec.{eqb}
 use Rattle.std.specs.Options.{isSome}
 use Rattle.std.specs.declared.option.Option.{Option}
 use Rattle.std.specs.declared.option.Option.the-variants.{None, Some}
-
 use Rattle.rules.proofs.Tests.{not-both, not-true, and-true, same?, eqb-self, some-none}
 use Rattle.keyed.specs.Keyed.{is-key, position, find, absent, distinct}
 use Rattle.keyed.proofs.Positions.{position-split}

@@ -6,7 +6,6 @@ use Prim.Native.Nat.{ℕ, _+_}
 use Rattle.std.specs.Options.{isSome}
 use Rattle.std.specs.declared.option.Option.{Option}
 use Rattle.std.specs.declared.option.Option.the-variants.{None, Some}
-
 use Rattle.keyed.specs.Keyed.{is-key, find, absent, distinct, under, all-under, count-taken}
 use Rattle.keyed.proofs.Counting.{counted}
 

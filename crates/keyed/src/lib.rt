@@ -11,7 +11,6 @@ ghost use lib.ListN.{length};
 ghost use Rattle.std.specs.Options.{isSome};
 ghost use Rattle.std.specs.declared.option.Option.{Option as Maybe};
 ghost use Rattle.std.specs.declared.option.Option.the-variants.{Some, None};
-
 ghost use Rattle.keyed.specs.Keyed.{is-key, position, any-taken};
 
 // A place that is free, or taken under a number.

@@ -14,7 +14,6 @@ use Rattle.tables.specs.Tables.{Table}
 use Rattle.tables.specs.declared.refusal.Refusal.the-variants.{SessionsFull, NumbersSpent}
 use Rattle.modes.specs.Kind.{Kind}
 use Rattle.rules.proofs.Below.{count-same}
-
 use Rattle.rules.specs.Office.{live-count, begin, refused, number}
 use Rattle.rules.specs.Rules.{Step}
 use Rattle.keyed.proofs.Counting.{counted, count-find, count-room, count-full, count-set}

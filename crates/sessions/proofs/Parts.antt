@@ -8,7 +8,6 @@ use Rattle.std.specs.Options.{isSome}
 use Rattle.std.specs.declared.option.Option.the-variants.{None, Some}
 use Rattle.tables.specs.Tables.{Table}
 use Rattle.modes.specs.Kind.{Kind}
-
 use Rattle.rules.specs.Office.{Office, Call, Answer}
 use Rattle.rules.specs.Rules.{Step}
 use Rattle.keyed.specs.Keyed.{is-key, position, find, count-taken, distinct, all-under, every}

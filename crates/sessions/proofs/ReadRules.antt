@@ -19,7 +19,6 @@ use Rattle.tables.specs.declared.refusal.Refusal.{Refusal}
 use Rattle.tables.specs.declared.refusal.Refusal.the-variants.{NoSession, NoEntry, NotReading, ShortBuffer}
 use Rattle.modes.specs.Kind.{Kind}
 use Rattle.rules.proofs.Tests.{bool?}
-
 use Rattle.rules.specs.Office.{Text, read, refused, found}
 use Rattle.rules.specs.Rules.{reading, Step}
 use Rattle.keyed.proofs.Every.{every-at}

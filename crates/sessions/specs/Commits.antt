@@ -7,7 +7,6 @@ use Rattle.std.specs.Options.{valueOr}
 use Rattle.std.specs.declared.option.Option.{Option}
 use Rattle.std.specs.declared.option.Option.the-variants.{None, Some}
 use Rattle.tables.specs.Tables.{of, Table, entry}
-
 use Rattle.keyed.specs.Keyed.{find}
 use Rattle.sessions.specs.Sessions.{session-key, is-written}
 use Rattle.sessions.specs.declared.hold.Hold.{Hold}

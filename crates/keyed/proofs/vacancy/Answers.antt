@@ -1,6 +1,5 @@
 use mathlib.Core.Path.{sym}
 use mathlib.Core.Bool.{not}
-
 use Rattle.std.specs.Options.{isSome}
 use Rattle.keyed.proofs.Positions.{position-some, position-none}
 use Rattle.keyed.proofs.vacancy.Needs as need

@@ -2,7 +2,6 @@ use Prim.Native.Nat.{ℕ, _<_}
 use mathlib.Core.Path.{_≡_}
 use mathlib.Core.Bool.{false, not}
 use lib.ListN.{getD}
-
 use Rattle.std.specs.Options.{isSome}
 use Rattle.keyed.proofs.vacancy.Given as given
 
