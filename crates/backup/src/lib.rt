@@ -5,6 +5,8 @@
 // May use: tables, modes, rules (its definitions), restore, sessions.
 // Main promise: each call answers and leaves exactly what the rule of that call says, on the stores' own tables.
 
+#![tactic(auto)]
+
 mod commits;
 mod hands;
 pub mod office;

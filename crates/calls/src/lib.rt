@@ -4,6 +4,9 @@
 // May use: tables, rules.
 // Main promise: specs/ says of every call which call of the rules it asks for, and of every answer which answer
 // of the rules it gives.
+
+#![tactic(auto)]
+
 use tables::Refusal;
 
 // A call, with its numbers in the order session, entry, mode.

@@ -2,6 +2,9 @@
 //
 // Job: reads a listing from standard input, one entry a line, and prints each step with its figures.
 // May use: every library below. The work is done there; here it is only called and printed.
+
+#![tactic(auto)]
+
 use compare::Comparison;
 use imageformat::LONGEST_FILE;
 use input::read_input;

@@ -5,6 +5,8 @@
 // Main promise: the answer is `Same` only of equal tables, `CountsDiffer` only of unequal counts, and
 // `Entry(e)` only where the counts are equal and entry `e` is the first that differs.
 
+#![tactic(auto)]
+
 ghost use Rattle.std.specs.Prelude.{◌≡◌, ◌<◌, length, Decides};
 ghost use Rattle.tables.specs.Tables.{entry};
 ghost use Rattle.compare.specs.Compared.{SameStamp, Compared};

@@ -4,6 +4,8 @@
 // May use: tables.
 // Main promise: the answer, the refusals and the buffer are those of the table's own `text`.
 
+#![tactic(auto)]
+
 ghost use Rattle.std.specs.Prelude.{◌≡◌, ◌≤◌, ◌++◌, length, take, drop};
 ghost use Rattle.tables.specs.Answers.{TextAnswer};
 

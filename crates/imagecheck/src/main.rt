@@ -4,6 +4,9 @@
 // `ok` and the number of its entries, `no` and the refusal's number, with `row` and the row's number where a
 // row is at fault, or `bad` where the line has no such digits.
 // May use: tables, words, imagefile, input. The work is done there; here it is only called and printed.
+
+#![tactic(auto)]
+
 use imagefile::{Reader, check};
 use input::read_input;
 use std::io;

@@ -7,6 +7,8 @@
 // bytes are refused by the first rule that they break, with the row where it is one of a row. A reader over
 // a file shows the table that was written, and over any other bytes no entry.
 
+#![tactic(auto)]
+
 pub mod checks;
 pub mod faults;
 pub mod reader;

@@ -6,6 +6,8 @@
 // Main promise: what is coded here are the bytes that the definition says, and what is read here is what was
 // coded.
 
+#![tactic(auto)]
+
 pub mod row;
 
 pub use row::{HEAD_BYTES, LONGEST_FILE, ROW_BYTES, Row, VERSION, head_bytes, u16_at};

@@ -5,6 +5,8 @@
 // Main promise: the file of a lawful table of equal count is in the store afterwards; any other bytes are
 // refused, by the file's fault before the difference of the counts, and the store is as it was.
 
+#![tactic(auto)]
+
 ghost use Rattle.imagerestore.specs.Outcome.{Outcome};
 
 use imagefile::{Reader, check};

@@ -6,6 +6,8 @@
 // Main promise: where only the writer wrote the buffer, the finished file is the file of the table whose rows
 // and bodies were offered; a refused call leaves the writer and the buffer as they were.
 
+#![tactic(auto)]
+
 pub mod writer;
 
 pub use writer::{Bodies, Rows};

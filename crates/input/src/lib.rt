@@ -4,6 +4,9 @@
 // May use: std alone.
 // Main promise: no more is said to have come than the buffer holds. What came is the input's own affair: no
 // contract can say what a program reads.
+
+#![tactic(auto)]
+
 ghost use Rattle.std.specs.Prelude.{◌≤◌, length, IfOk};
 
 use std::io;

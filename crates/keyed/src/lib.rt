@@ -4,6 +4,8 @@
 // May use: `rules`, for words of its definitions.
 // Main promise: each answer is the one that the list of the places tells.
 
+#![tactic(auto)]
+
 ghost use Rattle.std.specs.Prelude.{◌≡◌, ℕ, ◌<◌, true, not, length, is_some, Some, None, Option as Maybe};
 ghost use Rattle.keyed.specs.Keyed.{is_key, position, any_taken};
 

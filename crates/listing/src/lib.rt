@@ -5,6 +5,8 @@
 // Main promise: the store holds exactly the entries that the listing's good lines say, in their order; every
 // other line is told with its number and its fault, and changes nothing.
 
+#![tactic(auto)]
+
 pub mod line;
 pub mod load;
 pub mod survey;

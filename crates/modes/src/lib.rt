@@ -5,6 +5,8 @@
 // Main promise: a kind answers every question as its meaning says, which never changes and keeps the laws that
 // every kind owes.
 
+#![tactic(auto)]
+
 pub mod draft;
 pub mod modes;
 pub mod plain;

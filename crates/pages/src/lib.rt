@@ -6,6 +6,8 @@
 // Main promise: the store reads and writes as the traits `Readable` and `Store` say of its table; a new store
 // has blank entries; and every page stands in one chain, so that a put that is not refused never runs out.
 
+#![tactic(auto)]
+
 mod moves;
 mod page;
 mod reading;

@@ -5,6 +5,8 @@
 // Main promise: where the two counts are equal the store's table is then the source's; where they differ the
 // call is refused by 15 and the store is as it was. There is no other refusal.
 
+#![tactic(auto)]
+
 ghost use Rattle.std.specs.Prelude.{◌≡◌, ◌<◌, length, Ok};
 ghost use Rattle.tables.specs.Tables.{entry};
 ghost use Rattle.restore.specs.Restored.{EntryCopied, Restored};

@@ -8,6 +8,8 @@
 // Main promise: at each close of a round the image is what the writes of exactly the Before sessions make of
 // the opening table, and the sessions could have been carried out one after another, the Before ones first.
 
+#![tactic(auto)]
+
 ghost use Rattle.rules.specs.Examples.{AllRight, examples};
 ghost use Rattle.rules.specs.Round.{EachCallExtends, EveryListRuns, RoundsLawful, TablesLawful};
 

@@ -5,6 +5,8 @@
 // Main promise: a line is read exactly as its words say, and any other line is malformed; an answer's line is
 // exactly `ok` with its values or `no` with the refusal's number.
 
+#![tactic(auto)]
+
 pub mod answers;
 pub mod command;
 mod fields;

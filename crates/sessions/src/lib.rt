@@ -5,6 +5,8 @@
 // Main promise: with any live table of its count and any image, the session table is an office of the rules,
 // and each call answers and leaves exactly what the rule of that call says.
 
+#![tactic(auto)]
+
 pub mod calls;
 pub mod claims;
 pub mod commits;

@@ -5,6 +5,8 @@
 // Main promise: the store reads and writes as the traits `Readable` and `Store` say of its table, and a new
 // store has blank entries.
 
+#![tactic(auto)]
+
 pub mod slot;
 pub mod store;
 

@@ -5,6 +5,8 @@
 // May use: every library of tables, stores and image files.
 // Main promise: none beyond the libraries' own; these functions only run them.
 
+#![tactic(auto)]
+
 #[cfg(test)]
 mod damaged;
 #[cfg(test)]

@@ -6,6 +6,8 @@
 // Main promise: whatever implements the traits answers as its table says, and refuses only where, and by the
 // number that, the rules name.
 
+#![tactic(auto)]
+
 // The most entries that a table has.
 pub const MOST_ENTRIES: usize = 128;
 

@@ -4,6 +4,9 @@
 // tables, as one call that tells its figures.
 // May use: tables, restore, compare and the crates of the image file.
 // Main promise: the buffer then begins with the table's file, and the store holds the table.
+
+#![tactic(auto)]
+
 ghost use Rattle.std.specs.Prelude.{◌≡◌};
 ghost use Rattle.transfer.specs.Transferred.{Transferred};
 ghost use Rattle.transfer.specs.declared.fault.TransferFault.{TransferFault};

@@ -5,6 +5,9 @@
 // May use: std alone.
 // Main promise: a cut answers exactly what stands before and after the first separator; a number is read
 // exactly from one to nineteen decimal digits, and bytes exactly from two hexadecimal digits each.
+
+#![tactic(auto)]
+
 ghost use Rattle.std.specs.Prelude.{◌≡◌, ◌<◌, ◌≤◌, [], ◌∷◌, length, Some, None};
 ghost use Rattle.std.specs.Option.{option_map};
 ghost use Rattle.std.specs.Char.{digit_value};
