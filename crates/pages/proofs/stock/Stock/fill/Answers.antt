@@ -12,7 +12,7 @@ loop-i-init c =
       omega arith,
       omega arith,
       omega arith,
-      filled_none c.args.text.now _ c.div-ceil-i.result (omega arith),
+      filled_none c.args.text.now _ c.div_ceil-i.result (omega arith),
       λ o l ne. refl,
     )
 
@@ -21,7 +21,7 @@ shift-requires c =
     let v = c.loop-i.invariant in
     record {
       a_in = omega arith;
-      b-in = omega (arith, v.0, c.requires.within);
+      b_in = omega (arith, v.0, c.requires.within);
       apart = λ e. omega (arith, v.0, c.requires.within);
       some = omega (arith, v.2);
     }

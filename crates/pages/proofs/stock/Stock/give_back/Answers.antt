@@ -12,7 +12,7 @@ shift-requires c =
     let sized = blocks_length s.pages s.chains c.args.e in
     record {
       a_in = omega (arith, c.requires.within);
-      b-in = omega arith;
+      b_in = omega arith;
       apart = λ e. omega (arith, c.requires.within);
       some = omega arith;
     }

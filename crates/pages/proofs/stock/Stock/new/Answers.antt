@@ -15,4 +15,4 @@ invariant-of-result c =
     )
 
 pub returns : goal.returns
-returns c = record { counted = refl; empty = start_blocks c.fresh-pages.result c.args.n c.fresh-pages.ensures.1 c.requires }
+returns c = record { counted = refl; empty = start_blocks c.fresh_pages.result c.args.n c.fresh_pages.ensures.1 c.requires }

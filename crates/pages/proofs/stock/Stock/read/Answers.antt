@@ -22,7 +22,7 @@ loop-i-preserved c =
     let v = c.loop-i.invariant in
     let small = c.requires.small in (
       search (rules, overwrites),
-      read_more s c.args.e c.loop-i.i c.loop-i.p (omega (arith, c.requires.within)) c.loop-i-test.true v.2 c.loop-i.text c.copy-from-slice.new.self (flat_map (λ x. x) (blocks s c.args.e)) _ v.0 (omega arith) c.copy-from-slice.ensures.after v.1,
+      read_more s c.args.e c.loop-i.i c.loop-i.p (omega (arith, c.requires.within)) c.loop-i-test.true v.2 c.loop-i.text c.copy_from_slice.new.self (flat_map (λ x. x) (blocks s c.args.e)) _ v.0 (omega arith) c.copy_from_slice.ensures.after v.1,
       within_more s c.args.e c.loop-i.i c.loop-i.p (omega (arith, c.requires.within)) c.loop-i-test.true v.2,
     )
 

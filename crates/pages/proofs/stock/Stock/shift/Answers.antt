@@ -27,5 +27,5 @@ invariant-of-self c =
 
 pub returns : goal.returns
 returns c =
-    let m = moved c.args.self.now c.args.a c.args.b c.args.block c.requires.a_in c.requires.b-in c.requires.apart c.requires.some in
+    let m = moved c.args.self.now c.args.a c.args.b c.args.block c.requires.a_in c.requires.b_in c.requires.apart c.requires.some in
     record { stays = refl; from = m.0; onto = m.1; rest = m.2 }

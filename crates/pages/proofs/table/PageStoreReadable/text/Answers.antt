@@ -15,7 +15,7 @@ returns c =
     let n = table_length s in
     let len = ap (λ r. r.len) (row_read s e (omega arith) c.index-self-e.result) in
     let same : (get_or s.rows e c.index-self-e.result).len - 0 ≡ (row s.rows e).len = omega arith in
-    let P : List ℕ → Type 0 = λ t. Front t c.args.buf.now c.fill-front.result c.fill-front.new.buf in (
-      λ l. subst P (text_read s e (omega arith) c.read-blocks.result _ same c.read-blocks.ensures) c.fill-front.ensures,
+    let P : List ℕ → Type 0 = λ t. Front t c.args.buf.now c.fill_front.result c.fill_front.new.buf in (
+      λ l. subst P (text_read s e (omega arith) c.read-blocks.result _ same c.read-blocks.ensures) c.fill_front.ensures,
       λ l. absurd (omega arith),
     )
