@@ -7,8 +7,8 @@ use Rattle.pages.specs.Chains.{linked, size}
 use Rattle.pages.proofs.Readings.{left, bytes_of, page_here, within_more, read_more}
 use Rattle.pages.proofs.stock.Stock.read.Goals as goal
 
-pub offset-bounds-self-p : goal.offset-bounds-self-p
-offset-bounds-self-p c =
+pub offset_bounds-self-p : goal.offset_bounds-self-p
+offset_bounds-self-p c =
     let l = page_here c.args.self.now c.args.e c.loop-i.i c.loop-i.p (omega (arith, c.requires.within)) c.loop-i-test.true c.loop-i.invariant.2 in
     search rules
 

@@ -6,17 +6,17 @@ use Rattle.pages.proofs.table.PageStoreStore.put.Goals as goal
 pub returns-then-e-self : goal.returns-then-e-self
 returns-then-e-self c = let n = table_length c.args.self.now in search rules
 
-pub returns-then-text-gt-LONGEST-TEXT : goal.returns-then-text-gt-LONGEST-TEXT
-returns-then-text-gt-LONGEST-TEXT c = let n = table_length c.args.self.now in search rules
+pub returns-then-text-gt-LONGEST_TEXT : goal.returns-then-text-gt-LONGEST_TEXT
+returns-then-text-gt-LONGEST_TEXT c = let n = table_length c.args.self.now in search rules
 
 pub replace-requires : goal.replace-requires
 replace-requires c = record { within = omega arith; short = omega arith; small = small c.args.self.now }
 
-pub invariant-of-self : goal.invariant-of-self
-invariant-of-self c =
+pub invariant_of-self : goal.invariant_of-self
+invariant_of-self c =
     let r = c.replace.ensures in
     let f = fits_again c.args.self.now c.replace.new.self c.args.e c.args.text.now c.args.stamp (record { stays = r.stays; pages = r.pages; front = r.front; rest = r.rest }) (omega arith) (omega arith) in
-    (simp length-set c.args.self.now.wide, (f, tt))
+    record { wide = simp length-set c.args.self.now.wide; fits = f }
 
 pub returns : goal.returns
 returns c =
