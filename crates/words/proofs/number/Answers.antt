@@ -5,14 +5,14 @@ use Rattle.std.proofs.lemmas.List.{take_all}
 use Rattle.words.proofs.Reading.{room, number_some, number_none}
 use Rattle.words.proofs.number.Goals as goal
 
-pub returns-in-default : goal.returns-in-default
-returns-in-default c = number_none c.args.word.now c.loop-b.b-index (omega arith) c.in-default.ensures
+pub returns-in_default : goal.returns-in_default
+returns-in_default c = number_none c.args.word.now c.loop-b.b-index (omega arith) c.in_default.ensures
 
-pub overflow-mul-n : goal.overflow-mul-n
-overflow-mul-n c = let r = room c.args.word.now c.loop-b.b-index c.loop-b.n (omega arith) (omega arith) c.loop-b.invariant.0 c.loop-b.invariant.1 in omega arith
+pub overflow_mul-n : goal.overflow_mul-n
+overflow_mul-n c = let r = room c.args.word.now c.loop-b.b-index c.loop-b.n (omega arith) (omega arith) c.loop-b.invariant.0 c.loop-b.invariant.1 in omega arith
 
-pub overflow-add-n : goal.overflow-add-n
-overflow-add-n c =
+pub overflow_add-n : goal.overflow_add-n
+overflow_add-n c =
     let r = room c.args.word.now c.loop-b.b-index c.loop-b.n (omega arith) (omega arith) c.loop-b.invariant.0 c.loop-b.invariant.1 in
     let d = c.in-Some.ensures in
     omega arith

@@ -5,10 +5,10 @@ use Rattle.words.specs.Hex.{HexByte}
 use Rattle.words.proofs.Hexing.{hex_digits, hex_more, hex_all}
 use Rattle.words.proofs.hex.hex_bytes.Goals as goal
 
-pub returns-then-not-all-hex : goal.returns-then-not-all-hex
-returns-then-not-all-hex c =
+pub returns-then-not-all_hex : goal.returns-then-not-all_hex
+returns-then-not-all_hex c =
     record {
-      bytes = λ bs hex few. both_ways c.all-hex.result c.if-not-all-hex.true (c.all-hex.ensures.1 (hex_digits c.args.text.now bs hex));
+      bytes = λ bs hex few. both_ways c.all_hex.result c.if-not-all_hex.true (c.all_hex.ensures.1 (hex_digits c.args.text.now bs hex));
       rest = refl;
     }
 
@@ -17,10 +17,10 @@ loop-i-preserved c =
     let text = c.args.text.now in
     let out = c.loop-i.out in
     let i = c.loop-i.i in
-    let digits = c.all-hex.ensures.0 c.if-not-all-hex.false in
-    let here : HexByte text i c.hex-byte.result = (digits (2 * i) (omega arith), digits (2 * i + 1) (omega arith), c.hex-byte.ensures) in (
-      hex_more text out i c.hex-byte.result (omega arith) c.loop-i.invariant.0 here,
-      drop-set-lt (i + 1) out i c.hex-byte.result (omega arith)
+    let digits = c.all_hex.ensures.0 c.if-not-all_hex.false in
+    let here : HexByte text i c.hex_byte.result = (digits (2 * i) (omega arith), digits (2 * i + 1) (omega arith), c.hex_byte.ensures) in (
+      hex_more text out i c.hex_byte.result (omega arith) c.loop-i.invariant.0 here,
+      drop-set-lt (i + 1) out i c.hex_byte.result (omega arith)
           ∙ sym (drop-drop 1 i out)
           ∙ ap (drop 1) c.loop-i.invariant.1
           ∙ drop-drop 1 i c.args.out.now,

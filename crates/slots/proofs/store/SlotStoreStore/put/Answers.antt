@@ -7,9 +7,9 @@ pub returns-then-e-self : goal.returns-then-e-self
 returns-then-e-self c = search (rules, table_length)
 
 -- the text is too long for a slot
-pub returns-in-err-self : goal.returns-in-err-self
-returns-in-err-self c = let f = c.in-err-self.ensures in search (rules, table_length)
+pub returns-in_err-self : goal.returns-in_err-self
+returns-in_err-self c = let f = c.in_err-self.ensures in search (rules, table_length)
 
 -- the write to the slot is the write to the table
 pub returns : goal.returns
-returns c = let f = c.in-ok-self.ensures in search (rules, table_length, table_set)
+returns c = let f = c.in_ok-self.ensures in search (rules, table_length, table_set)
