@@ -5,6 +5,6 @@ use Rattle.listing.proofs.load.load_listing.Goals as goal
 
 pub fill-requires : goal.fill-requires
 fill-requires c =
-    let survey = c.in-ok-survey.ensures in
-    let store = c.in-ok-store.ensures in
-    ap length store.1 ∙ length-replicate c.in-ok-survey.survey.entries blank ∙ survey.0
+    let survey = c.in_ok-survey.ensures in
+    let store = c.in_ok-store.ensures in
+    ap length store.1 ∙ length-replicate c.in_ok-survey.survey.entries blank ∙ survey.0

@@ -4,7 +4,7 @@ use Rattle.listing.specs.Listing.{listed}
 use Rattle.listing.specs.Faults.{bad_lines}
 use Rattle.listing.proofs.LineByLine.{good_listed, bad_listed, good_noted, bad_noted}
 use Rattle.listing.proofs.survey.survey_listing.Goals as goal
-use Rattle.listing.proofs.survey.survey_listing.Goals.{in-Ok, in-Err+in-ok-push}
+use Rattle.listing.proofs.survey.survey_listing.Goals.{in-Ok, in-Err+in_ok-push-in-Err}
 
 pub loop-first-preserved : goal.loop-first-preserved
 loop-first-preserved c =
@@ -16,7 +16,7 @@ loop-first-preserved c =
     let split = c.in-Some.ensures.lines in
     let inv = c.loop-first.invariant in
     elim
-    c.match-parse-line.branch [
+    c.match-parse_line.branch [
       | in-Ok w ↦ (
         omega (arith, w.entries-is, inv.0),
         omega (arith, split.1, inv.1),
@@ -26,12 +26,12 @@ loop-first-preserved c =
             ∙ ap (λ t. vec_items bad ++ t) (sym (good_noted ls rest l split.0 k _ w.in-Ok.ensures))
             ∙ inv.3,
       )
-      | in-Err+in-ok-push w ↦ (
+      | in-Err+in_ok-push-in-Err w ↦ (
         omega (arith, w.entries-is, inv.0),
         omega (arith, split.1, inv.1),
         (let n = ap length (bad_listed ls rest l split.0 _ w.in-Err.ensures) in omega (arith, w.entries-is, inv.2)),
         ap (λ v. vec_items v ++ bad_lines (k + 1) rest) w.bad-is
-            ∙ ap (λ t. t ++ bad_lines (k + 1) rest) w.in-ok-push.ensures.items
+            ∙ ap (λ t. t ++ bad_lines (k + 1) rest) w.in_ok-push-in-Err.ensures.items
             ∙ append_assoc (vec_items bad) _ (bad_lines (k + 1) rest)
             ∙ ap (λ n. vec_items bad ++ (record { line = k; fault = w.in-Err.fault } ∷ bad_lines n rest)) (add-one k)
             ∙ ap (λ t. vec_items bad ++ t) (sym (bad_noted ls rest l split.0 k _ w.in-Err.ensures))
