@@ -1,10 +1,9 @@
 -- A listing, one line further.
-use Rattle.std.proofs.Common.{◌≡◌, ℕ, suc, List, [], ◌∷◌, ◌++◌, Ok, Err, sym, ap, ◌∙◌, append_assoc}
-use Rattle.tables.specs.Tables.{Entry, Table}
+use Rattle.std.proofs.Common.{◌≡◌, ℕ, suc, List, ◌∷◌, Ok, Err, ap, ◌∙◌}
+use Rattle.tables.specs.Tables.{Entry}
 use Rattle.listing.specs.Listing.{listed_line, kept, listed}
 use Rattle.listing.specs.Faults.{noted, bad_lines}
 use Rattle.listing.specs.declared.line.LineFault.{LineFault}
-use Rattle.listing.specs.declared.survey.BadLine.{BadLine}
 
 module _ (ls rest : List (List ℕ)) (l : List ℕ) (first : ls ≡ l ∷ rest) where
   pub good_listed : (x : Entry) → listed_line l ≡ Ok x → listed ls ≡ x ∷ listed rest

@@ -13,7 +13,7 @@ fn push_refused(out: &mut Vec<u8>, refusal: Refusal) -> Result<(), AllocError>
     ensures { out.new.items ≡ with_line result out.old.items (refused_line refusal) }
 {
     let n = refusal.number();
-    let line = format!(in out.allocator(); "no {n}\n")?;
+    let line = format!(in *out.allocator(); "no {n}\n")?;
     out.extend_from_slice(line.as_bytes())
 }
 
@@ -21,7 +21,7 @@ fn push_refused(out: &mut Vec<u8>, refusal: Refusal) -> Result<(), AllocError>
 fn push_number(out: &mut Vec<u8>, n: usize) -> Result<(), AllocError>
     ensures { out.new.items ≡ with_line result out.old.items (number_line n) }
 {
-    let line = format!(in out.allocator(); "ok {n}\n")?;
+    let line = format!(in *out.allocator(); "ok {n}\n")?;
     out.extend_from_slice(line.as_bytes())
 }
 
@@ -29,7 +29,7 @@ fn push_number(out: &mut Vec<u8>, n: usize) -> Result<(), AllocError>
 fn push_counts(out: &mut Vec<u8>, a: usize, b: usize) -> Result<(), AllocError>
     ensures { out.new.items ≡ with_line result out.old.items (answer_line (counts a b)) }
 {
-    let line = format!(in out.allocator(); "ok {a} {b}\n")?;
+    let line = format!(in *out.allocator(); "ok {a} {b}\n")?;
     out.extend_from_slice(line.as_bytes())
 }
 
@@ -54,7 +54,7 @@ fn front(bytes: &[u8], n: usize) -> &[u8]
 fn push_found(out: &mut Vec<u8>, text: &[u8]) -> Result<(), AllocError>
     ensures { out.new.items ≡ with_line result out.old.items (answer_line (found text.now)) }
 {
-    let line = text_line(out.allocator(), b"ok ", text)?;
+    let line = text_line(*out.allocator(), b"ok ", text)?;
     out.extend_from_slice(&line)
 }
 
@@ -100,7 +100,7 @@ pub fn push_entry(
 ) -> Result<(), AllocError>
     ensures { out.new.items ≡ with_line result out.old.items (entry_line e (of text.now edition hand)) }
 {
-    let head = format!(in out.allocator(); "{e} {edition} {hand} ")?;
-    let line = text_line(out.allocator(), head.as_bytes(), text)?;
+    let head = format!(in *out.allocator(); "{e} {edition} {hand} ")?;
+    let line = text_line(*out.allocator(), head.as_bytes(), text)?;
     out.extend_from_slice(&line)
 }

@@ -8,6 +8,7 @@ use words::{cut_at, number};
 const MOST_DIGITS: usize = 9;
 
 // Tells whether a word is the one that is named.
+#[tactic(auto, unfolding(crate::specs::Fields::is_word))]
 pub(crate) fn is_word(word: &[u8], name: &[u8]) -> bool
     ensures { result ≡ is_word word.now name.now }
 {

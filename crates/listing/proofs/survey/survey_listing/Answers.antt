@@ -1,6 +1,5 @@
-use Rattle.std.proofs.Common.{◌≡◌, ◌+◌, [], ◌∷◌, ◌++◌, length, vec_items, sym, ap, ◌∙◌, append_assoc, add-one, arith}
+use Rattle.std.proofs.Common.{◌+◌, ◌∷◌, ◌++◌, length, vec_items, sym, ap, ◌∙◌, append_assoc, add-one, arith}
 use Rattle.words.specs.Lines.{lines}
-use Rattle.listing.specs.Listing.{listed}
 use Rattle.listing.specs.Faults.{bad_lines}
 use Rattle.listing.proofs.LineByLine.{good_listed, bad_listed, good_noted, bad_noted}
 use Rattle.listing.proofs.survey.survey_listing.Goals as goal
