@@ -8,7 +8,7 @@ pub returns : goal.returns
 returns c =
     let bs = c.args.bytes.now in
     let at = c.args.at in
-    let e = c.from-be-bytes.ensures in
+    let e = c.from_be_bytes.ensures in
     let h : at + 2 ≤ length bs = omega arith in
     let w = two_at bs at h in
     let a = c.type-inv.bytes at in

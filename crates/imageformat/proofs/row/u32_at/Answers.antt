@@ -8,7 +8,7 @@ pub returns : goal.returns
 returns c =
     let bs = c.args.bytes.now in
     let at = c.args.at in
-    let e = c.from-be-bytes.ensures in
+    let e = c.from_be_bytes.ensures in
     let w = four_at bs at c.requires in
     let x = c.type-inv.bytes at in
     let y = c.type-inv.bytes (at + 1) in
