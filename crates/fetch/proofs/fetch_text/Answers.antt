@@ -1,4 +1,4 @@
-use Rattle.std.proofs.Common.{◌≡◌, ℕ, ◌≤◌, length, drop, refl, arith}
+use Rattle.std.proofs.Common.{◌≡◌, ℕ, length, arith}
 use Rattle.tables.specs.Tables.{entry}
 use Rattle.fetch.proofs.Copies.{text_copied}
 use Rattle.fetch.proofs.fetch_text.Goals as goal
