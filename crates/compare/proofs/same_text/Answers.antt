@@ -5,7 +5,7 @@ use Rattle.compare.proofs.Decisions.{by_buffers}
 use Rattle.compare.proofs.same_text.Given as given
 use Rattle.compare.proofs.same_text.Goals as goal
 use Rattle.compare.proofs.same_text.Goals.{After-eq}
-use Rattle.std.proofs.lemmas.Bool.Decides.{Decides-eqb}
+use Rattle.std.proofs.lemmas.Bool.Decides.{Decides-at, Decides-eqb}
 
 -- the lengths that are compared are those of the texts
 lengths : (g : given.Over) (c : After-eq g) → Decides c.eq.result (length (entry (g.L.Readable.table c.args.left.now) c.args.e).text ≡ length (entry (g.R.Readable.table c.args.right.now) c.args.e).text)
@@ -14,7 +14,7 @@ lengths g c =
     let m = ((g.R.Readable.lawful c.args.right.now).1 c.args.e c.requires.in_right).0 in
     let p = ((c.text-left_len.ensures.0 c.requires.in_left).0 l).0 in
     let q = ((c.text-right_len.ensures.0 c.requires.in_right).0 m).0 in
-    rw (p, q) at c.eq.ensures
+    Decides-at c.eq.result _ (rw (p, q) at c.eq.ensures) (Decides-eqb _ _)
 
 -- at equal lengths the buffers decide
 pub returns-then-eq : goal.returns-then-eq

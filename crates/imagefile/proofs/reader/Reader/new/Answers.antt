@@ -13,7 +13,7 @@ opened c =
 
 -- the file that the reader holds keeps all rules
 pub invariant_of-result : goal.invariant_of-result
-invariant_of-result c = let p = opened_passes (opened c) in (p.0, (p.1, (p.2, tt)))
+invariant_of-result c = let p = opened_passes (opened c) in record { head = p.0; rows = p.1; end = p.2 }
 
 -- what it shows, by the way that was taken
 pub returns : goal.returns
