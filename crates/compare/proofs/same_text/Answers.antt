@@ -12,8 +12,8 @@ lengths : (g : given.Over) (c : After-eq g) → Decides c.eq.result (length (ent
 lengths g c =
     let l = ((g.L.Readable.lawful c.args.left.now).1 c.args.e c.requires.in_left).0 in
     let m = ((g.R.Readable.lawful c.args.right.now).1 c.args.e c.requires.in_right).0 in
-    let p = ((c.text-left-len.ensures.0 c.requires.in_left).0 l).0 in
-    let q = ((c.text-right-len.ensures.0 c.requires.in_right).0 m).0 in
+    let p = ((c.text-left_len.ensures.0 c.requires.in_left).0 l).0 in
+    let q = ((c.text-right_len.ensures.0 c.requires.in_right).0 m).0 in
     rw (p, q) at c.eq.ensures
 
 -- at equal lengths the buffers decide
@@ -22,8 +22,8 @@ returns-then-eq g c =
     let l = ((g.L.Readable.lawful c.args.left.now).1 c.args.e c.requires.in_left).0 in
     let m = ((g.R.Readable.lawful c.args.right.now).1 c.args.e c.requires.in_right).0 in
     by_buffers _ _ _ _ _ c.eq-then-eq.result ((lengths g (goal.at.returns-then-eq g c).After-eq).0 c.if-eq.true)
-    ((c.text-left-len.ensures.0 c.requires.in_left).0 l).1
-    ((c.text-right-len.ensures.0 c.requires.in_right).0 m).1
+    ((c.text-left_len.ensures.0 c.requires.in_left).0 l).1
+    ((c.text-right_len.ensures.0 c.requires.in_right).0 m).1
     (slice_eq-Decides Decides-eqb _ _ _ c.eq-then-eq.ensures)
 
 -- texts of other lengths differ

@@ -8,9 +8,9 @@ unfolding Faulty
 returns-then-bytes-count c = kept (search rules) (kept (search rules) (kept (search rules) (broken (search rules) refl)))
 
 -- the third, and those before it are kept
-pub returns-then-count-gt-GREATEST-COUNT : goal.returns-then-count-gt-GREATEST-COUNT
+pub returns-then-count-gt-GREATEST_COUNT : goal.returns-then-count-gt-GREATEST_COUNT
 unfolding Faulty
-returns-then-count-gt-GREATEST-COUNT c = kept (search rules) (kept (search rules) (broken (search rules) refl))
+returns-then-count-gt-GREATEST_COUNT c = kept (search rules) (kept (search rules) (broken (search rules) refl))
 
 -- the second, and the first is kept
 pub returns-then-version-ne-VERSION : goal.returns-then-version-ne-VERSION
@@ -18,6 +18,6 @@ unfolding Faulty
 returns-then-version-ne-VERSION c = kept (search rules) (broken (search rules) refl)
 
 -- the first
-pub returns-then-bytes-lt-HEAD-BYTES : goal.returns-then-bytes-lt-HEAD-BYTES
+pub returns-then-bytes-lt-HEAD_BYTES : goal.returns-then-bytes-lt-HEAD_BYTES
 unfolding Faulty
-returns-then-bytes-lt-HEAD-BYTES c = broken (search rules) refl
+returns-then-bytes-lt-HEAD_BYTES c = broken (search rules) refl

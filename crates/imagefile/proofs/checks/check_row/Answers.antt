@@ -11,8 +11,8 @@ returns-then-row-place c =
     (refl, subst at c.row-of-row.ensures (kept (search rules) (kept (search rules) (broken (search rules) refl))))
 
 -- the length is above 96, and the stamp is lawful
-pub returns-then-row-gt-GREATEST-LENGTH : goal.returns-then-row-gt-GREATEST-LENGTH
-returns-then-row-gt-GREATEST-LENGTH c =
+pub returns-then-row-gt-GREATEST_LENGTH : goal.returns-then-row-gt-GREATEST_LENGTH
+returns-then-row-gt-GREATEST_LENGTH c =
     let at : Row → Type 0 = λ w. RowFaulty w c.args.place RowLong in
     (refl, subst at c.row-of-row.ensures (kept (search rules) (broken (search rules) refl)))
 

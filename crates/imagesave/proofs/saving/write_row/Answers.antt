@@ -8,11 +8,11 @@ returns g c =
     let from = c.args.from.now in
     let t = g.R.Readable.table from in
     let e = c.args.e in
-    let edition = c.in-ok-edition.edition in
-    let hand = c.in-ok-edition.hand in
-    let len = c.in-ok-length.length in
-    let stamp = c.in-ok-edition.ensures.0 c.requires.within in
-    let text = c.in-ok-length.ensures in
+    let edition = c.in_ok-edition.edition in
+    let hand = c.in_ok-edition.hand in
+    let len = c.in_ok-length.length in
+    let stamp = c.in_ok-edition.ensures.0 c.requires.within in
+    let text = c.in_ok-length.ensures in
     let pair : ◌≡◌ {A = ℕ × ℕ} (edition, hand) ((entry t e).edition, (entry t e).hand) = cc stamp in
     let ln : len ≡ length (entry t e).text = cc text in
     let turn = row_turn t e c.args.rows.now c.row.new.self c.args.buf.now c.row.new.buf edition hand len c.row.result (g.R.Readable.lawful from) c.requires.within c.requires.counted c.requires.wide (ap (λ p. p.0) pair) (ap (λ p. p.1) pair) ln c.requires.stood c.row.ensures.answer c.row.ensures.meaning in

@@ -5,20 +5,20 @@ use Rattle.imagefile.proofs.Bodies.{part_ends, part_is}
 use Rattle.imagefile.proofs.reader.Reader.body.Goals as goal
 
 -- the body ends in the file
-pub slice-bounds-result-end : goal.slice-bounds-result-end
-slice-bounds-result-end c =
+pub slice_bounds-result-end : goal.slice_bounds-result-end
+slice_bounds-result-end c =
     let file = c.args.self.now in
     let bs = file.bytes.now in
-    let row = c.in-ok-row.ensures in
+    let row = c.in_ok-row.ensures in
     let n = shown_length bs in
-    let h = part_ends bs c.in-ok-row.row c.args.e row.1 (file.head, file.rows, file.end) (omega arith) in
+    let h = part_ends bs c.in_ok-row.row c.args.e row.1 (file.head, file.rows, file.end) (omega arith) in
     search rules
 
 -- the part is the body, and the entry's text
 pub returns : goal.returns
 returns c =
     let bs = c.args.self.now.bytes.now in
-    let row = c.in-ok-row.ensures in
+    let row = c.in_ok-row.ensures in
     let n = shown_length bs in
-    let part = part_is bs c.in-ok-row.row c.args.e row.1 in
+    let part = part_is bs c.in_ok-row.row c.args.e row.1 in
     (row.0, part ∙ sym (ap (λ (x : Entry). x.text) (shown_entry bs c.args.e (omega arith))), part)

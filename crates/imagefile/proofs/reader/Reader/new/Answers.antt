@@ -12,11 +12,11 @@ opened c =
     ]
 
 -- the file that the reader holds keeps all rules
-pub invariant-of-result : goal.invariant-of-result
-invariant-of-result c = let p = opened_passes (opened c) in (p.0, (p.1, (p.2, tt)))
+pub invariant_of-result : goal.invariant_of-result
+invariant_of-result c = let p = opened_passes (opened c) in (p.0, (p.1, (p.2, tt)))
 
 -- what it shows, by the way that was taken
 pub returns : goal.returns
 returns c =
     let h = opened (goal.at.returns c).Joined-check in
-    record { shows = opened_shows h; refused = opened_refused h; back = opened_back (λ i. let f = c.type-inv.bytes i in omega arith) h }
+    record { shows = opened_shows h; refused = opened_refused h; back = opened_back (λ i. let f = c.type_inv.bytes i in omega arith) h }

@@ -4,11 +4,11 @@ use Rattle.imagefile.specs.Laws.{shown_length, shown_entry}
 use Rattle.imagefile.proofs.reader.Reader.row.Goals as goal
 
 -- a row below the count begins in the file
-pub overflow-mul-e : goal.overflow-mul-e
-overflow-mul-e c = let n = shown_length c.args.self.now.bytes.now in search rules
+pub overflow_mul-e : goal.overflow_mul-e
+overflow_mul-e c = let n = shown_length c.args.self.now.bytes.now in search rules
 
-pub overflow-add-e : goal.overflow-add-e
-overflow-add-e c = let n = shown_length c.args.self.now.bytes.now in search rules
+pub overflow_add-e : goal.overflow_add-e
+overflow_add-e c = let n = shown_length c.args.self.now.bytes.now in search rules
 
 -- its stamp is the entry's
 pub returns : goal.returns

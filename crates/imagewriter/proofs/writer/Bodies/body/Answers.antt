@@ -4,8 +4,8 @@ use Rattle.imagewriter.specs.Answers.{BodyFits}
 use Rattle.imagewriter.proofs.BodiesStand.{named, own_fits, body_stands}
 use Rattle.imagewriter.proofs.writer.Bodies.body.Goals as goal
 
-pub returns-then-text-gt-LONGEST-TEXT : goal.returns-then-text-gt-LONGEST-TEXT
-returns-then-text-gt-LONGEST-TEXT c =
+pub returns-then-text-gt-LONGEST_TEXT : goal.returns-then-text-gt-LONGEST_TEXT
+returns-then-text-gt-LONGEST_TEXT c =
     let w = c.args.self.now in
     let buf = c.args.buf.now in
     let text = c.args.text.now in
@@ -20,11 +20,11 @@ returns c =
     let w = c.args.self.now in
     let buf = c.args.buf.now in
     let text = c.args.text.now in
-    let put = c.put-bytes.ensures in
+    let put = c.put_bytes.ensures in
     let fits : BodyFits w.standing buf text = search rules in
     let roomy : room w.count ≤ length buf = search rules in
     let more : w.standing < w.count = search rules in
     record {
       answer = (search rules, search rules, λ _ _ unfit. absurd (unfit fits), λ _ _ _. (refl, (refl, refl, refl), put));
-      meaning = λ t stood _ _. (λ other. absurd (other (fits.1 ∙ named t w buf more stood)), λ _. refl, λ own. body_stands t text w buf c.put-bytes.new.buf own put roomy more stood);
+      meaning = λ t stood _ _. (λ other. absurd (other (fits.1 ∙ named t w buf more stood)), λ _. refl, λ own. body_stands t text w buf c.put_bytes.new.buf own put roomy more stood);
     }
