@@ -1,6 +1,6 @@
 -- What an accepted call says of the office.
 use Rattle.std.proofs.Common.{◌≡◌, ℕ, ◌<◌, true, not, ◌&&◌, length, set, Some, None, Option, Result, sym, refl, ap, ◌∙◌, ⊎_elim, arith}
-use borrow.Author.Tests.{not_false}
+use borrow.Author.Tests.{not-false}
 use Rattle.std.proofs.lemmas.List.{set_past}
 use Rattle.std.proofs.lemmas.Bool.{cases_lt}
 use Rattle.tables.specs.Tables.{Table, entry}
@@ -19,7 +19,7 @@ copy_accepted K o e p s = go (first_of (declines K o (copy e))) refl (ap (λ z. 
   where
     go : (y : Option Refusal) → first_of (declines K o (copy e)) ≡ y → done ≡ (decided K o (copy e) y).0 → (e < entries o) × (o.round ≡ true)
     go (Some r) q a = let z : ◌≡◌ {A = ℕ} 0 1 = cc in absurd (omega arith)
-    go None q a = let f = none_fit (declines K o (copy e)) q in (below_if e (entries o) f.0, not_false _ f.1.0)
+    go None q a = let f = none_fit (declines K o (copy e)) q in (below_if e (entries o) f.0, not-false _ f.1.0)
 
 -- what next names is an entry
 pub next_within : (o : Office) (e : ℕ) → next_of o ≡ Some e → e < entries o

@@ -1,6 +1,6 @@
 -- While a round is open the two tables have the same count: each call keeps it so.
-use Rattle.std.proofs.Common.{◌≡◌, ℕ, zero, suc, Bool, true, false, cond, ◌&&◌, length, Some, None, Option, sym, refl, ◌∙◌, subst, eqb-true}
-use borrow.Author.Tests.{not_false}
+use Rattle.std.proofs.Common.{◌≡◌, ℕ, zero, suc, Bool, true, false, cond, ◌&&◌, Some, None, Option, sym, refl, ◌∙◌, subst, eqb-true}
+use borrow.Author.Tests.{not-false}
 use Rattle.std.proofs.lemmas.List.{length-set}
 use Rattle.std.proofs.lemmas.Bool.{false≢true}
 use Rattle.tables.specs.Tables.{Table, entry}
@@ -8,7 +8,7 @@ use Rattle.tables.specs.declared.refusal.Refusal.{Refusal}
 use Rattle.tables.specs.declared.refusal.Refusal.TheVariants.{Ended}
 use Rattle.modes.specs.Kind.{Kind}
 use Rattle.rules.specs.Numbers.{first_of, maybe}
-use Rattle.rules.specs.Office.{is_before, Office, entries, session, mode_at, Call, begin, claim, read, write, commit, leave, open_round, copy, work, close_round, drop_round, Answer, refused, done}
+use Rattle.rules.specs.Office.{is_before, Office, session, mode_at, Call, begin, claim, read, write, commit, leave, open_round, copy, work, close_round, drop_round, Answer, refused, done}
 use Rattle.rules.specs.Rules.{wanted, next_of, declines, perform, decided, step, Step, committed_entry, after_leave, after_claim, after_commit, after_copy, after_work}
 use Rattle.rules.proofs.Declined.{none_fit}
 use Rattle.rules.proofs.Entries.{length_each}
@@ -35,7 +35,7 @@ module _ (K : Kind) (n : ℕ) (o : Office) (kept : Kept n o) where
 
   on_open : (y : Option Refusal) → first_of (declines K o open_round) ≡ y → Kept n (decided K o open_round y).1
   on_open (Some r) q = kept
-  on_open None q = (kept.0, λ r. eqb-true _ _ (not_false _ (none_fit (declines K o open_round) q).1.0))
+  on_open None q = (kept.0, λ r. eqb-true _ _ (not-false _ (none_fit (declines K o open_round) q).1.0))
 
   on_claim : (s e m : ℕ) → Kept n (perform K o (claim s e m)).1
   on_claim s e m = go (o.round && (is_before (session o s).side && o.copied e))

@@ -72,15 +72,27 @@ kept_for t live h = subst (λ n. Kept n (parts t)) (sym h) (kept t)
 
 -- the same as the ghost fields of a session table
 pub ghosts : {n : ℕ} {d : Parts} → Kept n d
-    → (length d.sessions ≡ 16)
-    × ((length d.copied ≡ 128)
-    × ((n ≤ 128)
-    × ((distinct session_key d.sessions ≡ true)
-    × ((all_under session_key d.next d.sessions ≡ true)
-    × ((every (sound_session n) d.sessions ≡ true)
-    × ((d.next ≤ 4_000_000_001)
-    × ((d.hand + count_taken session_key (λ _. true) d.sessions ≤ d.next) × Unit {0})))))))
-ghosts k = (k.places, (k.marks, (k.few, (k.numbers, (k.given, (k.sound, (k.last, (k.hands, tt))))))))
+    → record {
+      places : length d.sessions ≡ 16;
+      marks : length d.copied ≡ 128;
+      few : n ≤ 128;
+      numbers : distinct session_key d.sessions ≡ true;
+      given : all_under session_key d.next d.sessions ≡ true;
+      sound : every (sound_session n) d.sessions ≡ true;
+      last : d.next ≤ 4_000_000_001;
+      hands : d.hand + count_taken session_key (λ _. true) d.sessions ≤ d.next;
+    }
+ghosts k =
+    record {
+      places = k.places;
+      marks = k.marks;
+      few = k.few;
+      numbers = k.numbers;
+      given = k.given;
+      sound = k.sound;
+      last = k.last;
+      hands = k.hands;
+    }
 
 -- another session in place i
 abbrev pub with_place : Parts → ℕ → Session → Parts

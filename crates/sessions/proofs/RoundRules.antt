@@ -7,7 +7,7 @@ use Rattle.tables.specs.Tables.{Table, entry}
 use Rattle.tables.specs.declared.refusal.Refusal.TheVariants.{NoEntry, RoundOpen, CountsDiffer, NoRound, Copied, Held}
 use Rattle.modes.specs.Kind.{Kind}
 use Rattle.rules.proofs.Tests.{same_cases}
-use Rattle.rules.specs.Numbers.{maybe, any_below, lowest}
+use Rattle.rules.specs.Numbers.{any_below, lowest}
 use Rattle.rules.specs.Office.{new_session, is_held, open_round, copy, drop_round, refused, done}
 use Rattle.rules.specs.Rules.{next_of, opened_session, after_open, sideless, after_round, after_copy, Step}
 use Rattle.keyed.proofs.Every.{every_map, every_found}

@@ -1,4 +1,4 @@
-use Rattle.std.proofs.Common.{◌≡◌, ◌+◌, drop, sym, ap, ◌∙◌, arith}
+use Rattle.std.proofs.Common.{◌+◌, drop, sym, ap, ◌∙◌, arith}
 use Rattle.std.proofs.lemmas.List.{at_drop_more, at_drop_all}
 use Rattle.sessions.specs.Sessions.{fits, no_hold}
 use Rattle.sessions.specs.Commits.{put_holds}
@@ -6,8 +6,8 @@ use Rattle.keyed.proofs.Every.{every_at}
 use Rattle.backup.proofs.commits.put_holds.Goals as goal
 
 -- every text fits
-pub put-hold-requires : goal.put-hold-requires
-put-hold-requires g c =
+pub put_hold-requires : goal.put_hold-requires
+put_hold-requires g c =
     record { hand_lawful = c.requires.hand_lawful; text_fits = every_at fits c.args.holds.now c.loop-i.i no_hold (omega arith) c.requires.texts_fit }
 
 -- one more hold

@@ -5,14 +5,14 @@ use Rattle.sessions.specs.Sessions.{session_key, no_session}
 use Rattle.sessions.specs.View.{holds_entry}
 use Rattle.sessions.proofs.rounds.is_held.Goals as goal
 
-pub returns-then-holds-entry : goal.returns-then-holds-entry
-returns-then-holds-entry c =
+pub returns-then-holds_entry : goal.returns-then-holds_entry
+returns-then-holds_entry c =
     let q = holds_entry c.args.e in
     sym (any_taken_true session_key q c.args.sessions.now c.loop-session.session-index
-    (position_found (λ x. passes (session_key x) (λ k. q k x)) no_session c.args.sessions.now c.loop-session.session-index c.loop-session-test.true c.loop-session.invariant (sym c.if-holds-entry.ensures)))
+    (position_found (λ x. passes (session_key x) (λ k. q k x)) no_session c.args.sessions.now c.loop-session.session-index c.loop-session-test.true c.loop-session.invariant (sym c.if-holds_entry.ensures)))
 
 pub loop-session-preserved : goal.loop-session-preserved
-loop-session-preserved c = below_more _ _ c.loop-session.invariant (sym c.if-holds-entry.ensures)
+loop-session-preserved c = below_more _ _ c.loop-session.invariant (sym c.if-holds_entry.ensures)
 
 pub returns : goal.returns
 returns c =

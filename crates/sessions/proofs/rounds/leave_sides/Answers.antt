@@ -12,7 +12,7 @@ loop-session-preserved c =
     let x = get_or ys i no_session in
     let h : i < length ys = omega arith in
     let k : i < length xs = omega arith in
-    ap (set ys i) c.leave-side.ensures ∙ map_over_more without_side xs ys i x k c.loop-session.invariant (get_or_default ys i no_session x h)
+    ap (set ys i) c.leave_side.ensures ∙ map_over_more without_side xs ys i x k c.loop-session.invariant (get_or_default ys i no_session x h)
 
 pub returns : goal.returns
 returns c =

@@ -15,7 +15,7 @@ returns g c kept =
     let s = c.args.session in
     let live = g.L.Readable.table o.live in
     let image = g.I.Readable.table o.image in
-    let t' = c.end-commit.new.self in
-    let a = did c.end-commit.result in
+    let t' = c.end_commit.new.self in
+    let a = did c.end_commit.result in
     let after : Table → Type 0 = λ l. Step K (view o.sessions live image) (commit s) a (view t' l image) in
-    served K o.sessions.entries (view o.sessions live image) kept t'.entries (commit s) a (view t' (g.L.Readable.table c.put-session.new.to) image) c.end-commit.ensures.same (subst after (sym c.put-session.ensures) (c.end-commit.ensures.rule K live image kept.0))
+    served K o.sessions.entries (view o.sessions live image) kept t'.entries (commit s) a (view t' (g.L.Readable.table c.put_session.new.to) image) c.end_commit.ensures.same (subst after (sym c.put_session.ensures) (c.end_commit.ensures.rule K live image kept.0))

@@ -3,10 +3,10 @@ use Rattle.sessions.proofs.Parts.{parts, kept, ghosts}
 use Rattle.sessions.proofs.RoundRules.{dropped_kept, drop_done}
 use Rattle.sessions.proofs.table.SessionTable.drop_round.Goals as goal
 
-pub invariant-of-self : goal.invariant-of-self
-invariant-of-self c = let t = c.args.self.now in ghosts (dropped_kept (parts t) (kept t) c.leave-sides.ensures)
+pub invariant_of-self : goal.invariant_of-self
+invariant_of-self c = let t = c.args.self.now in ghosts (dropped_kept (parts t) (kept t) c.leave_sides.ensures)
 
 pub returns : goal.returns
 returns c =
     let t = c.args.self.now in
-    record { rule = λ K live image n. drop_done K (parts t) live image c.if-not-self.false c.leave-sides.ensures; same = refl }
+    record { rule = λ K live image n. drop_done K (parts t) live image c.if-not-self.false c.leave_sides.ensures; same = refl }

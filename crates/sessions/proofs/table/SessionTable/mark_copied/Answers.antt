@@ -3,14 +3,14 @@ use Rattle.sessions.proofs.Parts.{parts, kept, kept_for}
 use Rattle.sessions.proofs.RoundRules.{copy_held, copy_done}
 use Rattle.sessions.proofs.table.SessionTable.mark_copied.Goals as goal
 
-pub returns-then-is-held : goal.returns-then-is-held
-returns-then-is-held c =
+pub returns-then-is_held : goal.returns-then-is_held
+returns-then-is_held c =
     let t = c.args.self.now in
     record {
       rule =
           λ K live image n.
           let h : c.args.e < length live = omega (arith, n, c.if-e-self.false) in
-          copy_held K (parts t) live image c.args.e (kept t) h c.if-not-self.false c.if-self-e.false (sym c.if-is-held.ensures);
+          copy_held K (parts t) live image c.args.e (kept t) h c.if-not-self.false c.if-self-e.false (sym c.if-is_held.ensures);
       within = tt;
       same = refl;
     }
@@ -22,7 +22,7 @@ returns c =
       rule =
           λ K live image n.
           let h : c.args.e < length live = omega (arith, n, c.if-e-self.false) in
-          copy_done K (parts t) live image c.args.e (kept_for t live n) h c.if-not-self.false c.if-self-e.false (sym c.is-held.ensures ∙ c.if-is-held.false);
+          copy_done K (parts t) live image c.args.e (kept_for t live n) h c.if-not-self.false c.if-self-e.false (sym c.is_held.ensures ∙ c.if-is_held.false);
       within = c.if-e-self.false;
       same = refl;
     }

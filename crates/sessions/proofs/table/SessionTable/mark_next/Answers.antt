@@ -3,11 +3,11 @@ use Rattle.sessions.proofs.Parts.{parts}
 use Rattle.sessions.proofs.RoundRules.{seen_marked, next_copyable}
 use Rattle.sessions.proofs.table.SessionTable.mark_next.Goals as goal
 
-pub returns-in-default : goal.returns-in-default
-returns-in-default c =
+pub returns-in_default : goal.returns-in_default
+returns-in_default c =
     let t = c.args.self.now in
     record {
-      next = λ live image n. c.in-default.ensures.is ∙ sym (next_copyable t live image n);
+      next = λ live image n. c.in_default.ensures.is ∙ sym (next_copyable t live image n);
       mark = λ live image n. refl;
       within = tt;
       same = refl;

@@ -10,7 +10,7 @@ returns c =
     let first = c.args.first in
     let entries = c.args.entries in (
       first_falls ((ltb 4_000_000_001 first, NumbersSpent) ∷ (ltb 128 entries, CountHigh) ∷ []) None
-          (pass (le-ltb 4_000_000_001 first c.if-first.false) (pass (le-ltb 128 entries c.if-entries-gt-MOST-ENTRIES.false) over)),
+          (pass (le-ltb 4_000_000_001 first c.if-first.false) (pass (le-ltb 128 entries c.if-entries-gt-MOST_ENTRIES.false) over)),
       refl,
       seen_new c.free.ensures first,
     )

@@ -3,8 +3,8 @@ use Rattle.sessions.proofs.Parts.{parts, kept, kept_for, ghosts}
 use Rattle.sessions.proofs.RoundRules.{opened_kept, open_done}
 use Rattle.sessions.proofs.table.SessionTable.open_round.Goals as goal
 
-pub invariant-of-self : goal.invariant-of-self
-invariant-of-self c = let t = c.args.self.now in ghosts (opened_kept (parts t) (kept t) c.take-sides.ensures)
+pub invariant_of-self : goal.invariant_of-self
+invariant_of-self c = let t = c.args.self.now in ghosts (opened_kept (parts t) (kept t) c.take_sides.ensures)
 
 pub returns : goal.returns
 returns c =
@@ -12,6 +12,6 @@ returns c =
     record {
       rule =
           λ K live image n m.
-          open_done K (parts t) live image (kept_for t live n) c.if-self.false (m ∙ c.if-image-entries-self.false ∙ sym n) c.take-sides.ensures;
+          open_done K (parts t) live image (kept_for t live n) c.if-self.false (m ∙ c.if-image_entries-self.false ∙ sym n) c.take_sides.ensures;
       same = refl;
     }

@@ -5,11 +5,11 @@ use Rattle.sessions.proofs.ReadRules.{front_own, front_none, Reading, reading_fo
 use Rattle.sessions.proofs.Sound.{fits_bytes, fits_len}
 use Rattle.sessions.proofs.table.SessionTable.own_text.Goals as goal
 
-pub returns-in-default : goal.returns-in-default
-returns-in-default g c =
+pub returns-in_default : goal.returns-in_default
+returns-in_default g c =
     let t = c.args.self.now in
     record {
-      rule = λ live image n. read_nowhere g.K.Modes.kind (parts t) live image c.args.s c.args.e (length c.args.buf.now) c.in-default.ensures;
+      rule = λ live image n. read_nowhere g.K.Modes.kind (parts t) live image c.args.s c.args.e (length c.args.buf.now) c.in_default.ensures;
       rest = refl;
       within = tt;
     }
@@ -26,15 +26,15 @@ returns-then-e-self g c =
       within = tt;
     }
 
-pub returns-in-default-hold-of : goal.returns-in-default-hold-of
-returns-in-default-hold-of g c =
+pub returns-in_default-hold_of : goal.returns-in_default-hold_of
+returns-in_default-hold_of g c =
     let t = c.args.self.now in
     record {
       rule =
           λ live image n.
           let h : c.args.e < length live = omega (arith, n, c.if-e-self.false) in
           read_unheld g.K.Modes.kind (parts t) live image c.args.s c.args.e (length c.args.buf.now) c.in-Some.i c.in-Some.ensures.1 h
-          c.in-default-hold-of.ensures;
+          c.in_default-hold_of.ensures;
       rest = refl;
       within = tt;
     }
@@ -46,8 +46,8 @@ returns-then-not-reads g c =
       rule =
           λ live image n.
           let h : c.args.e < length live = omega (arith, n, c.if-e-self.false) in
-          read_mode g.K.Modes.kind (parts t) live image c.args.s c.args.e (length c.args.buf.now) c.in-Some.i c.in-Some-hold-of.k c.in-Some.ensures.1 h
-          c.in-Some-hold-of.ensures.1 (sym c.if-not-reads.ensures);
+          read_mode g.K.Modes.kind (parts t) live image c.args.s c.args.e (length c.args.buf.now) c.in-Some.i c.in-Some-hold_of.k c.in-Some.ensures.1 h
+          c.in-Some-hold_of.ensures.1 (sym c.if-not-reads.ensures);
       rest = refl;
       within = tt;
     }
@@ -57,20 +57,20 @@ returns-then-not-hold g c =
     let t = c.args.self.now in
     let K = g.K.Modes.kind in
     let i = c.in-Some.i in
-    let k = c.in-Some-hold-of.k in
+    let k = c.in-Some-hold_of.k in
     let a : Reading K t.entries (parts t) c.args.s c.args.e i k =
-    record { named = c.in-Some.ensures.1; entry = c.if-e-self.false; hold = c.in-Some-hold-of.ensures.1; mode = sym c.if-not-reads.ensures } in
+    record { named = c.in-Some.ensures.1; entry = c.if-e-self.false; hold = c.in-Some-hold_of.ensures.1; mode = sym c.if-not-reads.ensures } in
     record {
       rule = λ live image n. read_live K (parts t) live image c.args.s c.args.e i k (reading_for live n a) (length c.args.buf.now) c.if-not-hold.true;
       rest = refl;
       within = c.if-e-self.false;
     }
 
-pub slice-bounds-fill-front-end : goal.slice-bounds-fill-front-end
-slice-bounds-fill-front-end g c =
+pub slice_bounds-fill_front-end : goal.slice_bounds-fill_front-end
+slice_bounds-fill_front-end g c =
     let t = c.args.self.now in
-    let h = get_or (session_in (parts t) c.in-Some.i).holds c.in-Some-hold-of.k no_hold in
-    let ok = fits_in t c.in-Some.i c.in-Some-hold-of.k c.in-Some.ensures.0 c.in-Some-hold-of.ensures.0 in
+    let h = get_or (session_in (parts t) c.in-Some.i).holds c.in-Some-hold_of.k no_hold in
+    let ok = fits_in t c.in-Some.i c.in-Some-hold_of.k c.in-Some.ensures.0 c.in-Some-hold_of.ensures.0 in
     let a : h.len ≤ 96 = fits_len h ok in
     let b : length h.text ≡ 96 = fits_bytes h ok in
     search rules
@@ -80,16 +80,16 @@ returns-in-Ok g c =
     let t = c.args.self.now in
     let K = g.K.Modes.kind in
     let i = c.in-Some.i in
-    let k = c.in-Some-hold-of.k in
+    let k = c.in-Some-hold_of.k in
     let buf = c.args.buf.now in
     let h = get_or (session_in (parts t) i).holds k no_hold in
     let a : Reading K t.entries (parts t) c.args.s c.args.e i k =
-    record { named = c.in-Some.ensures.1; entry = c.if-e-self.false; hold = c.in-Some-hold-of.ensures.1; mode = sym c.if-not-reads.ensures } in
-    let f = front_own h buf c.fill-front.new.buf c.in-Ok.n c.in-Ok.ensures in
+    record { named = c.in-Some.ensures.1; entry = c.if-e-self.false; hold = c.in-Some-hold_of.ensures.1; mode = sym c.if-not-reads.ensures } in
+    let f = front_own h buf c.fill_front.new.buf c.in-Ok.n c.in-Ok.ensures in
     record {
       rule =
           λ live image n.
-          read_own K (parts t) live image c.args.s c.args.e i k (reading_for live n a) (length buf) (take c.in-Ok.n c.fill-front.new.buf) c.if-not-hold.false f.0 f.1;
+          read_own K (parts t) live image c.args.s c.args.e i k (reading_for live n a) (length buf) (take c.in-Ok.n c.fill_front.new.buf) c.if-not-hold.false f.0 f.1;
       rest = f.2;
       within = c.if-e-self.false;
     }
@@ -99,12 +99,12 @@ returns-in-Err g c =
     let t = c.args.self.now in
     let K = g.K.Modes.kind in
     let i = c.in-Some.i in
-    let k = c.in-Some-hold-of.k in
+    let k = c.in-Some-hold_of.k in
     let buf = c.args.buf.now in
     let h = get_or (session_in (parts t) i).holds k no_hold in
     let a : Reading K t.entries (parts t) c.args.s c.args.e i k =
-    record { named = c.in-Some.ensures.1; entry = c.if-e-self.false; hold = c.in-Some-hold-of.ensures.1; mode = sym c.if-not-reads.ensures } in
-    let f = front_none h buf c.fill-front.new.buf c.in-Err.f c.in-Err.ensures in
+    record { named = c.in-Some.ensures.1; entry = c.if-e-self.false; hold = c.in-Some-hold_of.ensures.1; mode = sym c.if-not-reads.ensures } in
+    let f = front_none h buf c.fill_front.new.buf c.in-Err.f c.in-Err.ensures in
     record {
       rule = λ live image n. read_short K (parts t) live image c.args.s c.args.e i k (reading_for live n a) (length buf) c.in-Err.f c.if-not-hold.false f.1 f.0;
       rest = f.2;
