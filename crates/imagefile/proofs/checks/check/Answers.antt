@@ -1,4 +1,4 @@
-use Rattle.std.proofs.Common.{◌<◌, sym, refl, ◌∙◌, arith}
+use Rattle.std.proofs.Common.{◌<◌, refl, ◌∙◌, arith}
 use Rattle.std.proofs.lemmas.Result.{err_from_is_err_and}
 use Rattle.imagefile.specs.Shown.{head_count}
 use Rattle.tables.specs.declared.refusal.Refusal.TheVariants.{BadEnd}
@@ -36,7 +36,7 @@ returns-then-end-bytes c =
     let bs = c.args.bytes.now in
     let head = c.in_ok-count.ensures in
     let rows = all_rows bs c.loop-k.k c.loop-k.end (omega arith) c.loop-k.invariant.0 c.loop-k.invariant.1 in
-    refused bs (Whole BadEnd) (after_head bs (Whole BadEnd) head.1 (kept rows.0 (broken (λ e. c.if-end-bytes.true (rows.1 ∙ e)) refl)))
+    refused bs (Whole BadEnd) (after_head bs (Whole BadEnd) head.1 (kept rows.0 (broken (λ e. let f = rows.1 ∙ e in absurd (omega arith)) refl)))
 
 -- every rule is kept
 pub returns : goal.returns
@@ -44,4 +44,4 @@ returns c =
     let bs = c.args.bytes.now in
     let head = c.in_ok-count.ensures in
     let rows = all_rows bs c.loop-k.k c.loop-k.end (omega arith) c.loop-k.invariant.0 c.loop-k.invariant.1 in
-    accepted bs (λ i. let f = c.type_inv.bytes i in omega arith) (head.1, rows.0, sym rows.1 ∙ c.if-end-bytes.false)
+    accepted bs (λ i. let f = c.type_inv.bytes i in omega arith) (head.1, rows.0, (let e = rows.1 in omega arith))
