@@ -14,7 +14,7 @@ use Rattle.sessions.specs.declared.hold.Hold.{Hold}
 use Rattle.sessions.specs.declared.session.Session.{Session}
 use Rattle.sessions.proofs.Parts.{Parts, Kept, kept, with_place, session_in, At}
 
--- the parts of the test sound-session
+-- the parts of the test sound_session
 pub record Sound (n : ℕ) (x : Session) : Type 0 where
   pub eight : length x.holds ≡ 8
   pub entries : distinct hold_key x.holds ≡ true

@@ -18,4 +18,4 @@ returns g c kept =
     let t' = c.end_commit.new.self in
     let a = did c.end_commit.result in
     let after : Table → Type 0 = λ l. Step K (view o.sessions live image) (commit s) a (view t' l image) in
-    served K o.sessions.entries (view o.sessions live image) kept t'.entries (commit s) a (view t' (g.L.Readable.table c.put_session.new.to) image) c.end_commit.ensures.same (subst after (sym c.put_session.ensures) (c.end_commit.ensures.rule K live image kept.0))
+    served K o.sessions.entries (view o.sessions live image) kept t'.entries (commit s) a _ c.end_commit.ensures.same (subst after (sym c.put_session.ensures) (c.end_commit.ensures.rule K live image kept.0))
