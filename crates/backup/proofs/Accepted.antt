@@ -1,5 +1,5 @@
 -- What an accepted call says of the office.
-use Rattle.std.proofs.Common.{◌≡◌, ℕ, ◌<◌, true, not, ◌&&◌, length, set, Some, None, Option, Result, sym, refl, ap, ◌∙◌, ⊎_elim, arith}
+use Rattle.std.proofs.Common.{◌≡◌, ℕ, ◌<◌, true, not, ◌&&◌, length, set, Some, None, Ok, Option, Result, sym, refl, ap, ◌∙◌, subst, ⊎_elim, arith}
 use borrow.Author.Tests.{not-false}
 use Rattle.std.proofs.lemmas.List.{set_past}
 use Rattle.std.proofs.lemmas.Bool.{cases_lt}
@@ -10,6 +10,10 @@ use Rattle.modes.specs.Kind.{Kind}
 use Rattle.rules.specs.Numbers.{first_of}
 use Rattle.rules.specs.Office.{Office, entries, is_held, copy, done}
 use Rattle.rules.specs.Rules.{next_of, declines, decided, Step}
+use Rattle.sessions.specs.Answers.{did}
+use Rattle.sessions.specs.View.{view}
+use Rattle.sessions.specs.declared.table.SessionTable.{SessionTable}
+use Rattle.backup.specs.Serving.{Kept}
 use Rattle.rules.proofs.Below.{lowest_some}
 use Rattle.rules.proofs.Declined.{none_fit, below_if}
 
@@ -32,3 +36,15 @@ image_set live image image' e r low a =
     (λ within. (a.0 low within).1)
     (λ past. (a.2 past).1 ∙ sym (set_past image e (entry live e) past))
     (cases_lt e (length image))
+
+-- what the copy of a marked entry leaves is what the rule says
+pub copied_step : (K : Kind) (t t' : SessionTable) (live image : Table) (e : ℕ) → Kept t.entries (view t live image)
+    → Step K (view t live image) (copy e) (did (Ok tt)) (view t' live (set image e (entry live e)))
+    → (r : Result (Unit {0}) Refusal) (image' : Table) → EntryCopied live image e r image' → Step K (view t live image) (copy e) (did r) (view t' live image')
+copied_step K t t' live image e kept rule r image' a =
+    let accepted = copy_accepted K (view t live image) e (view t' live (set image e (entry live e))) rule in
+    let within : e < length image = (let n = kept.1 accepted.1 in omega (arith, accepted.0, n)) in
+    let copied = a.0 accepted.0 within in
+    let answered : Result (Unit {0}) Refusal → Type 0 = λ x. Step K (view t live image) (copy e) (did x) (view t' live (set image e (entry live e))) in
+    let after : Table → Type 0 = λ i. Step K (view t live image) (copy e) (did r) (view t' live i) in
+    subst after (sym copied.1) (subst answered (sym copied.0) rule)

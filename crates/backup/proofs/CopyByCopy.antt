@@ -1,5 +1,5 @@
 -- A work, copy by copy.
-use Rattle.std.proofs.Common.{◌≡◌, ℕ, zero, suc, ◌+◌, ◌-◌, ◌<◌, ◌≤◌, Some, None, Option, ap, ◌∙◌, arith}
+use Rattle.std.proofs.Common.{◌≡◌, ℕ, zero, suc, ◌+◌, ◌-◌, ◌<◌, ◌≤◌, Some, None, Option, refl, ap, ◌∙◌, arith}
 use Rattle.rules.specs.Numbers.{maybe}
 use Rattle.rules.specs.Office.{Office}
 use Rattle.rules.specs.Rules.{next_of, after_copy, after_work}
@@ -14,12 +14,6 @@ pub record Going (limit made : ℕ) (o p : Office) : Type 0 where
   pub copies : (after_work limit o).0 ≡ made + (after_work (limit - made) p).0
   pub office : (after_work limit o).1 ≡ (after_work (limit - made) p).1
 
--- no copy is made yet
-pub going_none : (limit : ℕ) (o : Office) → Going limit 0 o o
-going_none limit o =
-    let e : limit ≡ limit - 0 = omega arith in
-    record { within = omega arith; copies = let c = ap (λ k. (after_work k o).0) e in omega arith; office = ap (λ k. (after_work k o).1) e }
-
 -- one copy more
 pub going_more : (limit made : ℕ) (o p : Office) (e : ℕ) → made < limit → Going limit made o p → next_of p ≡ Some e → Going limit (made + 1) o (after_copy p e)
 going_more limit made o p e l g n =
@@ -31,21 +25,21 @@ going_more limit made o p e l g n =
       office = g.office ∙ ap (λ r. r.1) w;
     }
 
+-- the rest of the work copies nothing more, and leaves the office p
+done : (limit made : ℕ) (o p : Office) → Going limit made o p → after_work (limit - made) p ≡ (0, p) → after_work limit o ≡ (made, p)
+done limit made o p g rest =
+    let none = ap (λ r. r.0) rest in
+    let copies : (after_work limit o).0 ≡ made = (let c = g.copies in omega arith) in
+    ap (λ k. (k, (after_work limit o).1)) copies ∙ ap (λ q. (made, q)) (g.office ∙ ap (λ r. r.1) rest)
+
 -- next says none
-pub going_stop : (limit made : ℕ) (o p : Office) → Going limit made o p → next_of p ≡ None → ((after_work limit o).0 ≡ made) × ((after_work limit o).1 ≡ p)
-going_stop limit made o p g n = go (limit - made) g.copies g.office
+pub going_stop : (limit made : ℕ) (o p : Office) → Going limit made o p → next_of p ≡ None → after_work limit o ≡ (made, p)
+going_stop limit made o p g n = done limit made o p g (stopped (limit - made))
   where
-    go : (k : ℕ) → (after_work limit o).0 ≡ made + (after_work k p).0 → (after_work limit o).1 ≡ (after_work k p).1 → ((after_work limit o).0 ≡ made) × ((after_work limit o).1 ≡ p)
-    go zero a b = (omega arith, b)
-    go (suc k) a b =
-        let w = worked k p None n in
-        let z = ap (λ r. r.0) w in
-        (omega arith, b ∙ ap (λ r. r.1) w)
+    stopped : (k : ℕ) → after_work k p ≡ (0, p)
+    stopped zero = refl
+    stopped (suc k) = worked k p None n
 
 -- the limit is reached
-pub going_full : (limit made : ℕ) (o p : Office) → limit ≤ made → Going limit made o p → ((after_work limit o).0 ≡ made) × ((after_work limit o).1 ≡ p)
-going_full limit made o p l g =
-    let k : limit - made ≡ 0 = omega arith in
-    let a = g.copies in
-    let z = ap (λ j. (after_work j p).0) k in
-    (omega arith, g.office ∙ ap (λ j. (after_work j p).1) k)
+pub going_full : (limit : ℕ) (o p : Office) → Going limit limit o p → after_work limit o ≡ (limit, p)
+going_full limit o p g = done limit limit o p g (ap (λ k. after_work k p) (let k : limit - limit ≡ 0 = omega arith in k))

@@ -20,7 +20,7 @@ module _ (n : ℕ) where
   copy_kept : (o : Office) (e : ℕ) → Kept n o → Kept n (after_copy o e)
   copy_kept o e k = (k.0, λ r. length-set o.image e (entry o.live e) ∙ k.1 r)
 
-  work_kept : (k : ℕ) (o : Office) → Kept n o → Kept n (after_work k o).1
+  pub work_kept : (k : ℕ) (o : Office) → Kept n o → Kept n (after_work k o).1
   work_kept zero o kept = kept
   work_kept (suc k) o kept = go (next_of o) (λ e. work_kept k (after_copy o e) (copy_kept o e kept))
     where
@@ -62,13 +62,13 @@ module _ (K : Kind) (n : ℕ) (o : Office) (kept : Kept n o) where
   step_kept close_round = on_other close_round (kept.0, λ r. absurd (false≢true r)) (first_of (declines K o close_round))
   step_kept drop_round = on_other drop_round (kept.0, λ r. absurd (false≢true r)) (first_of (declines K o drop_round))
 
-  -- a call by the rules leaves an office that is kept, and of as many entries
-  pub served : (n' : ℕ) (c : Call) (a : Answer) (p : Office) → n' ≡ n → Step K o c a p → Step K o c a p × Kept n' p
-  served n' c a p same s =
-      let now_kept : Kept n p = subst (λ (z : Answer × Office). Kept n z.1) (sym s) (step_kept c) in
-      (s, subst (λ (m : ℕ). Kept m p) (sym same) now_kept)
+-- a call by the rules leaves an office that is kept, of as many entries
+pub kept_by_rule : (K : Kind) (n n' : ℕ) (o p : Office) (c : Call) (a : Answer) → Kept n o → n' ≡ n → Step K o c a p → Kept n' p
+kept_by_rule K n n' o p c a kept same s =
+    subst (λ m. Kept m p) (sym same) (subst (λ (z : Answer × Office). Kept n z.1) (sym s) (step_kept K n o kept c))
 
--- a call of the session table alone, with the office's two tables
-pub by_sessions : (K : Kind) (t t' : SessionTable) (live image : Table) (c : Call) (a : Answer) → t'.entries ≡ t.entries → Kept t.entries (view t live image) → ByRule K t c a t' → Step K (view t live image) c a (view t' live image) × Kept t'.entries (view t' live image)
-by_sessions K t t' live image c a same kept rule =
-    served K t.entries (view t live image) kept t'.entries c a (view t' live image) same (rule live image kept.0)
+-- so does a call of the session table alone, with the office's two tables
+pub kept_by_sessions : (K : Kind) (t t' : SessionTable) (live image : Table) (c : Call) (a : Answer) → Kept t.entries (view t live image) → ByRule K t c a t'
+    → Kept t'.entries (view t' live image)
+kept_by_sessions K t t' live image c a kept rule =
+    kept_by_rule K t.entries t'.entries (view t live image) (view t' live image) c a kept rule.0 (rule.1 live image kept.0)

@@ -1,6 +1,4 @@
-ghost use Rattle.std.specs.Prelude.{◌≡◌, ◌≤◌, true};
-ghost use Rattle.keyed.specs.Keyed.{every};
-ghost use Rattle.sessions.specs.Sessions.{fits};
+ghost use Rattle.std.specs.Prelude.{◌≡◌, ◌≤◌};
 ghost use Rattle.sessions.specs.Commits.{put_hold, put_holds, put_written};
 
 use sessions::{Hold, SessionTable};
@@ -8,31 +6,33 @@ use tables::{Readable, Stamp, Store};
 
 // Puts the text of a hold into a store, if it keeps one.
 fn put_hold<S: Store>(to: &mut S, hold: &Hold, hand: u32)
-    requires hand_lawful { hand ≤ 4000000000 }
-    requires text_fits { fits hold.now ≡ true }
+    requires { hand ≤ 4000000000 }
     ensures { S.Readable.table to.new ≡ put_hold hand hold.now (S.Readable.table to.old) }
 {
-    if !hold.is_written() {
+    let Some(text) = &hold.written else {
         return;
-    }
+    };
     let Ok((edition, _)) = to.stamp(hold.entry) else {
         return;
     };
     let stamp = Stamp {
-        edition: if edition < hand { edition + 1 } else { hand },
+        edition: (edition + 1).min(hand),
         hand,
     };
-    let _ = to.put(hold.entry, &hold.text[0..hold.len], stamp);
+    let _ = to.put(hold.entry, text.as_bytes(), stamp);
 }
 
-// Puts the texts of holds into a store.
-fn put_holds<S: Store>(to: &mut S, holds: &[Hold], hand: u32)
-    requires hand_lawful { hand ≤ 4000000000 }
-    requires texts_fit { every fits holds.now ≡ true }
+// Puts the texts of holds into a store. That the hand is one that a stamp may have is asked here and above: the number
+// alone has no type of its own, its law is the stamp's.
+fn put_holds<S: Store>(to: &mut S, holds: &[Option<Hold>], hand: u32)
+    requires { hand ≤ 4000000000 }
     ensures { S.Readable.table to.new ≡ put_holds hand holds.now (S.Readable.table to.old) }
 {
-    for i in 0..holds.len() {
-        put_hold(to, &holds[i], hand);
+    // not `flatten`: it leaves goals on its inner iterator that no short answer closes
+    for place in holds {
+        if let Some(hold) = place {
+            put_hold(to, hold, hand);
+        }
     }
 }
 

@@ -10,9 +10,7 @@ pub(crate) fn highest_hand<R: Readable>(table: &R) -> u32
 {
     let mut highest = 0;
     for e in 0..table.count() {
-        let Ok((_, hand)) = table.stamp(e) else {
-            return highest;
-        };
+        let (_, hand) = table.stamp(e).unwrap();
         highest = highest.max(hand);
     }
     highest

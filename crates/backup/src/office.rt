@@ -18,18 +18,17 @@ pub struct Office<L: Store, I: Store, K: Modes> {
     image: I,
     kinds: K,
     sessions: SessionTable,
+    // the live store has as many entries as the sessions know of, and in a round the image store too
+    ghost kept: { Kept sessions.entries (view sessions (L.Readable.table live) (I.Readable.table image)) },
 }
 
 impl<L: Store, I: Store, K: Modes> Office<L, I, K> {
     // A new office, with no session and no round.
     pub fn new(live: L, image: I, kinds: K) -> Office<L, I, K>
-        ensures state { view result.sessions (L.Readable.table result.live) (I.Readable.table result.image) ≡ new_office (L.Readable.table live) (I.Readable.table image) }
-        ensures kept { Kept result.sessions.entries (view result.sessions (L.Readable.table result.live) (I.Readable.table result.image)) }
+        ensures { view result.sessions (L.Readable.table result.live) (I.Readable.table result.image) ≡ new_office (L.Readable.table live) (I.Readable.table image) }
     {
         let first = highest_hand(&live) + 1;
-        let Ok(sessions) = SessionTable::new(live.count(), first) else {
-            unreachable()
-        };
+        let sessions = SessionTable::new(live.count(), first).unwrap();
         Office {
             live,
             image,
@@ -44,8 +43,6 @@ impl<L: Store, I: Store, K: Modes> Serves for Office<L, I, K> {
 
     ghost state = { λ o. view o.sessions (L.Readable.table o.live) (I.Readable.table o.image) };
 
-    ghost kept = { λ o. Kept o.sessions.entries (view o.sessions (L.Readable.table o.live) (I.Readable.table o.image)) };
-
     fn begin(&mut self) -> Result<usize, Refusal> {
         self.sessions.begin()
     }
@@ -55,11 +52,7 @@ impl<L: Store, I: Store, K: Modes> Serves for Office<L, I, K> {
     }
 
     fn read(&self, session: usize, entry: usize, buf: &mut [u8]) -> Result<usize, Refusal> {
-        let own = match self.sessions.own_text(&self.kinds, session, entry, buf) {
-            Ok(own) => own,
-            Err(f) => return Err(f),
-        };
-        match own {
+        match self.sessions.own_text(&self.kinds, session, entry, buf)? {
             Some(n) => Ok(n),
             None => self.live.text(entry, buf),
         }
@@ -83,10 +76,8 @@ impl<L: Store, I: Store, K: Modes> Serves for Office<L, I, K> {
     }
 
     fn copy(&mut self, entry: usize) -> Result<(), Refusal> {
-        match self.sessions.mark_copied(entry) {
-            Ok(()) => copy_entry(&self.live, &mut self.image, entry),
-            Err(f) => Err(f),
-        }
+        self.sessions.mark_copied(entry)?;
+        copy_entry(&self.live, &mut self.image, entry)
     }
 
     fn next(&self) -> Result<Option<usize>, Refusal> {

@@ -14,17 +14,15 @@ pub(crate) fn copy_next<L: Readable, I: Store>(
     image: &mut I,
     limit: usize,
 ) -> usize
-    ensures made { length (L.Readable.table live.now) ≡ sessions.old.entries → (after_work limit (view sessions.old (L.Readable.table live.now) (I.Readable.table image.old))).0 ≡ result }
-    ensures after { length (L.Readable.table live.now) ≡ sessions.old.entries → (after_work limit (view sessions.old (L.Readable.table live.now) (I.Readable.table image.old))).1 ≡ view sessions.new (L.Readable.table live.now) (I.Readable.table image.new) }
+    requires { length (L.Readable.table live.now) ≡ sessions.old.entries }
+    ensures work { after_work limit (view sessions.old (L.Readable.table live.now) (I.Readable.table image.old)) ≡ (result, view sessions.new (L.Readable.table live.now) (I.Readable.table image.new)) }
     ensures same { sessions.new.entries ≡ sessions.old.entries }
 {
-    let mut made = 0;
-    while made < limit {
+    for made in 0..limit {
         let Some(e) = sessions.mark_next() else {
             return made;
         };
         let _ = copy_entry(live, image, e);
-        made += 1;
     }
-    made
+    limit
 }

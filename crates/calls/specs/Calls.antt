@@ -1,10 +1,11 @@
 -- The calls and answers that values stand for.
-use Rattle.std.specs.Prelude.{List, ℕ, take}
+use Rattle.std.specs.Prelude.{List, ℕ, take, Ok, Err, Result}
+use Rattle.tables.specs.declared.refusal.Refusal.{Refusal}
 use Rattle.rules.specs.Office as office
 use Rattle.calls.specs.declared.Call.{Call}
 use Rattle.calls.specs.declared.Call.TheVariants.{Begin, Claim, Read, Write, Commit, Leave, Open, Copy, Work, Drop}
 use Rattle.calls.specs.declared.Answer.{Answer}
-use Rattle.calls.specs.declared.Answer.TheVariants.{Refused, Done, Number, Found, Counts}
+use Rattle.calls.specs.declared.Answer.TheVariants.{Done, Number, Found, Counts}
 
 -- the call that is asked for, where the caller's buffer has so many bytes
 abbrev pub asked : Call → ℕ → office.Call
@@ -20,9 +21,9 @@ asked (Work k) room = office.work k
 asked Drop room = office.drop_round
 
 -- the answer that is given, where the caller's buffer holds these bytes
-abbrev pub answered : Answer → List ℕ → office.Answer
-answered (Refused f) buf = office.refused f
-answered Done buf = office.done
-answered (Number n) buf = office.number n
-answered (Found n) buf = office.found (take n buf)
-answered (Counts a b) buf = office.counts a b
+abbrev pub answered : Result Answer Refusal → List ℕ → office.Answer
+answered (Err f) buf = office.refused f
+answered (Ok Done) buf = office.done
+answered (Ok (Number n)) buf = office.number n
+answered (Ok (Found n)) buf = office.found (take n buf)
+answered (Ok (Counts a b)) buf = office.counts a b

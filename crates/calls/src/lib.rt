@@ -2,12 +2,10 @@
 //
 // Job: the call that a line or a program makes, and the answer that it gets, each as one value.
 // May use: tables, rules.
-// Main promise: specs/ says of every call which call of the rules it asks for, and of every answer which answer
-// of the rules it gives.
+// Main promise: specs/ says of every call which call of the rules it asks for, and of every answer, also of a
+// refusal, which answer of the rules it gives.
 
 #![tactic(auto)]
-
-use tables::Refusal;
 
 // A call, with its numbers in the order session, entry, mode.
 #[derive(Clone, Copy)]
@@ -53,12 +51,10 @@ pub enum Call<'a> {
     Drop,
 }
 
-// The answer to a call.
+// What comes of a call that is not refused: the answer to a call is a `Result` of it and a refusal.
 #[derive(Clone, Copy)]
 pub enum Answer {
-    // the call is refused, for this reason
-    Refused(Refusal),
-    // it is done
+    // the call is done
     Done,
     // the number of the session that is begun
     Number(usize),

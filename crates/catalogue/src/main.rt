@@ -5,10 +5,12 @@
 
 #![tactic(auto)]
 
+ghost use Rattle.std.specs.Prelude.{◌<◌, length};
+
 use compare::Comparison;
 use imageformat::LONGEST_FILE;
-use input::read_input;
-use listing::{BadLine, LineFault, LoadFault, load_listing};
+use input::{MOST_INPUT, read_input};
+use listing::{BadLine, load_listing};
 use pages::PageStore;
 use slots::SlotStore;
 use std::io;
@@ -16,37 +18,23 @@ use std::io::Write;
 use tables::{LONGEST_TEXT, Readable};
 use transfer::{Transfer, TransferFault, transfer_table};
 
-// The most bytes of standard input that are read.
-const MOST_INPUT: usize = 65_536;
-
 // Tells each line that was passed over.
 fn show_bad_lines(rt: &HostRuntime, bad: &[BadLine]) -> io::Result<()> {
-    for b in bad {
-        let line = b.line;
-        match b.fault {
-            LineFault::Malformed => println!(rt;
-                "line {line}: passed over, it is not: edition, hand, text"
-            )?,
-            LineFault::Refused(f) => {
-                let number = f.number();
-                println!(rt; "line {line}: passed over, refusal {number}")?
-            }
-        }
+    for BadLine { line, fault } in bad {
+        println!(rt; "line {line}: passed over, {fault}")?;
     }
     Ok(())
 }
 
 // Prints an entry of a table: number, edition, hand and text.
-fn show_entry<T: Readable>(rt: &HostRuntime, table: &T, e: usize) -> io::Result<()> {
+fn show_entry<T: Readable>(rt: &HostRuntime, table: &T, e: usize) -> io::Result<()>
+    requires { e < length (T.table table.now) }
+{
     let mut text = [0u8; LONGEST_TEXT];
-    let Ok((edition, hand)) = table.stamp(e) else {
-        return Ok(());
-    };
-    let Ok(n) = table.text(e, &mut text) else {
-        return Ok(());
-    };
+    let (edition, hand) = table.stamp(e).unwrap();
+    let n = table.text(e, &mut text).unwrap();
     print!(rt; "{e}: edition {edition}, hand {hand}, text ")?;
-    rt.stdout().write_all(&text[0..n])?;
+    rt.stdout().write_all(&text[..n])?;
     println!(rt; "")
 }
 
@@ -59,13 +47,16 @@ fn show_table<T: Readable>(rt: &HostRuntime, table: &T) -> io::Result<()> {
 }
 
 // Prints the figures of a transfer.
-fn show_transfer(rt: &HostRuntime, done: &Transfer) -> io::Result<()> {
-    let length = done.file_length;
-    let n = done.entries;
-    println!(rt; "image file: {length} bytes written, and accepted by the check")?;
-    println!(rt; "reader: {n} entries shown")?;
-    println!(rt; "slot store: {n} entries restored")?;
-    match done.compared {
+fn show_transfer(rt: &HostRuntime, done: Transfer) -> io::Result<()> {
+    let Transfer {
+        file_length,
+        entries,
+        compared,
+    } = done;
+    println!(rt; "image file: {file_length} bytes written, and accepted by the check")?;
+    println!(rt; "reader: {entries} entries shown")?;
+    println!(rt; "slot store: {entries} entries restored")?;
+    match compared {
         Comparison::Same => println!(rt; "compared: the two tables are the same"),
         Comparison::CountsDiffer => println!(rt; "compared: the counts differ"),
         Comparison::Entry(e) => println!(rt; "compared: entry {e} differs"),
@@ -73,15 +64,13 @@ fn show_transfer(rt: &HostRuntime, done: &Transfer) -> io::Result<()> {
 }
 
 // Prints why a transfer ended early.
-fn show_fault(rt: &HostRuntime, fault: &TransferFault) -> io::Result<()> {
+fn show_fault(rt: &HostRuntime, fault: TransferFault) -> io::Result<()> {
     match fault {
-        TransferFault::Write(f) => {
-            let number = f.number();
-            println!(rt; "image file: not written, refusal {number}")
+        TransferFault::Write(refusal) => {
+            println!(rt; "image file: not written, refusal {refusal}")
         }
-        TransferFault::Restore(f) => {
-            let number = f.refusal().number();
-            println!(rt; "slot store: not restored, refusal {number}")
+        TransferFault::Restore(fault) => {
+            println!(rt; "slot store: not restored, refusal {}", fault.refusal())
         }
     }
 }
@@ -96,25 +85,21 @@ fn carry(rt: &HostRuntime, live: &PageStore) -> io::Result<()> {
     let mut file = [0u8; LONGEST_FILE];
     match transfer_table(live, &mut file, &mut image) {
         Ok(done) => {
-            show_transfer(rt, &done)?;
+            show_transfer(rt, done)?;
             show_table(rt, &image)
         }
-        Err(fault) => show_fault(rt, &fault),
+        Err(fault) => show_fault(rt, fault),
     }
 }
 
 fn main(rt: HostRuntime) -> io::Result<()> {
     let mut buf = [0u8; MOST_INPUT];
-    let got = read_input(&mut rt.stdin(), &mut buf)?;
-    match load_listing(rt.alloc(), &buf[0..got]) {
+    let n = read_input(&mut rt.stdin(), &mut buf)?;
+    match load_listing(rt.alloc(), &buf[..n]) {
         Ok(catalogue) => {
-            show_bad_lines(&rt, catalogue.bad.as_slice())?;
+            show_bad_lines(&rt, &catalogue.bad)?;
             carry(&rt, &catalogue.store)
         }
-        Err(LoadFault::Memory) => println!(rt; "listing: no memory"),
-        Err(LoadFault::Refused(f)) => {
-            let number = f.number();
-            println!(rt; "listing: refusal {number}")
-        }
+        Err(fault) => println!(rt; "listing: {fault}"),
     }
 }

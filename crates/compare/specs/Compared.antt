@@ -1,12 +1,8 @@
 -- What a comparison says of two tables.
 use Rattle.std.specs.Prelude.{◌≡◌, ℕ, ◌<◌, length, ◌≢◌}
-use Rattle.tables.specs.Tables.{Entry as TableEntry, Table, entry}
+use Rattle.tables.specs.Tables.{Table, entry}
 use Rattle.compare.specs.declared.Comparison.{Comparison}
 use Rattle.compare.specs.declared.Comparison.TheVariants.{Same, CountsDiffer, Entry}
-
--- two entries have the same stamp
-abbrev pub SameStamp : TableEntry → TableEntry → Type 0
-SameStamp x y = (x.edition ≡ y.edition) × (x.hand ≡ y.hand)
 
 -- the two tables are equal; or their lengths differ; or their lengths are equal, and e is the first entry that
 -- differs

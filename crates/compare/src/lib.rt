@@ -9,11 +9,12 @@
 
 ghost use Rattle.std.specs.Prelude.{◌≡◌, ◌<◌, length, Decides};
 ghost use Rattle.tables.specs.Tables.{entry};
-ghost use Rattle.compare.specs.Compared.{SameStamp, Compared};
+ghost use Rattle.compare.specs.Compared.{Compared};
 
 use tables::{LONGEST_TEXT, Readable};
 
-// How two tables compare.
+// How two tables compare. An enum of its own: none of the three answers is a failure, and an Option would need a second
+// enum for the two differences.
 #[derive(Clone, Copy, PartialEq, Eq, Debug)]
 pub enum Comparison {
     // the tables are equal
@@ -32,12 +33,10 @@ pub fn compare_tables<L: Readable, R: Readable>(left: &L, right: &R) -> Comparis
     if count != right.count() {
         return Comparison::CountsDiffer;
     }
-    for e in 0..count {
-        if !same_entry(left, right, e) {
-            return Comparison::Entry(e);
-        }
+    match (0..count).find(|e| !same_entry(left, right, *e)) {
+        Some(e) => Comparison::Entry(e),
+        None => Comparison::Same,
     }
-    Comparison::Same
 }
 
 // Tells whether an entry that both tables have is the same in both.
@@ -46,16 +45,7 @@ fn same_entry<L: Readable, R: Readable>(left: &L, right: &R, e: usize) -> bool
     requires in_right { e < length (R.Readable.table right.now) }
     ensures { Decides result (entry (L.Readable.table left.now) e ≡ entry (R.Readable.table right.now) e) }
 {
-    same_stamp(left, right, e) && same_text(left, right, e)
-}
-
-// Tells whether an entry that both tables have has the same stamp in both.
-fn same_stamp<L: Readable, R: Readable>(left: &L, right: &R, e: usize) -> bool
-    requires in_left { e < length (L.Readable.table left.now) }
-    requires in_right { e < length (R.Readable.table right.now) }
-    ensures { Decides result (SameStamp (entry (L.Readable.table left.now) e) (entry (R.Readable.table right.now) e)) }
-{
-    left.stamp(e) == right.stamp(e)
+    left.stamp(e) == right.stamp(e) && same_text(left, right, e)
 }
 
 // Tells whether an entry that both tables have has the same text in both. Each text is read into a buffer of

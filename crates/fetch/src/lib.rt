@@ -6,19 +6,19 @@
 
 #![tactic(auto)]
 
-ghost use Rattle.std.specs.Prelude.{◌≡◌, ◌≤◌, ◌++◌, length, take, drop};
+ghost use Rattle.std.specs.Prelude.{◌≡◌, ◌≤◌, ◌++◌, length, drop};
 ghost use Rattle.tables.specs.Answers.{TextAnswer};
 
 use tables::{LONGEST_TEXT, Readable, Refusal};
 
-// Copies the first `len` bytes one by one, and keeps the rest of `out`.
-fn copy_bytes(out: &mut [u8], bytes: &[u8], len: usize)
-    requires in_bytes { len ≤ length bytes.now }
-    requires in_out { len ≤ length out.old }
-    ensures { out.new ≡ take len bytes.now ++ drop len out.old }
+// Copies bytes one by one to the front of `out`, and keeps the rest.
+fn copy_bytes(out: &mut [u8], bytes: &[u8])
+    requires { length bytes.now ≤ length out.old }
+    ensures { out.new ≡ bytes.now ++ drop (length bytes.now) out.old }
 {
-    for i in 0..len {
-        out[i] = bytes[i];
+    // by index: of a buffer that a chain writes through iter_mut, a proof knows nothing afterwards
+    for (i, byte) in bytes.iter().enumerate() {
+        out[i] = *byte;
     }
 }
 
@@ -31,6 +31,6 @@ pub fn fetch_text<R: Readable>(from: &R, e: usize, out: &mut [u8]) -> Result<usi
     if out.len() < len {
         return Err(Refusal::ShortBuffer);
     }
-    copy_bytes(out, &fetched, len);
+    copy_bytes(out, &fetched[..len]);
     Ok(len)
 }

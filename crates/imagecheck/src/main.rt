@@ -8,13 +8,10 @@
 #![tactic(auto)]
 
 use imagefile::{Reader, check};
-use input::read_input;
+use input::{MOST_INPUT, read_input};
 use std::io;
 use tables::Readable;
-use words::{hex_bytes, split_line};
-
-// The most bytes of standard input that are read.
-const MOST_INPUT: usize = 65_536;
+use words::{Lines, hex_bytes};
 
 // The most bytes of a file that a line may give: the longest file has 14,084.
 const MOST_FILE: usize = 16_384;
@@ -22,17 +19,11 @@ const MOST_FILE: usize = 16_384;
 // Prints what the check says of a file.
 fn show_verdict(rt: &HostRuntime, file: &[u8]) -> io::Result<()> {
     match check(file) {
-        Ok(()) => {
-            let n = Reader::new(file).count();
-            println!(rt; "ok {n}")
-        }
-        Err(fault) => {
-            let number = fault.refusal().number();
-            match fault.row() {
-                Some(row) => println!(rt; "no {number} row {row}"),
-                None => println!(rt; "no {number}"),
-            }
-        }
+        Ok(()) => println!(rt; "ok {}", Reader::new(file).count()),
+        Err(fault) => match fault.row() {
+            Some(row) => println!(rt; "no {} row {row}", fault.refusal()),
+            None => println!(rt; "no {}", fault.refusal()),
+        },
     }
 }
 
@@ -40,23 +31,16 @@ fn show_verdict(rt: &HostRuntime, file: &[u8]) -> io::Result<()> {
 fn check_line(rt: &HostRuntime, line: &[u8]) -> io::Result<()> {
     let mut file = [0u8; MOST_FILE];
     match hex_bytes(line, &mut file) {
-        Some(n) => show_verdict(rt, &file[0..n]),
+        Some(n) => show_verdict(rt, &file[..n]),
         None => println!(rt; "bad"),
     }
 }
 
-// Checks the file of each line.
-fn check_lines(rt: &HostRuntime, input: &[u8]) -> io::Result<()> {
-    let mut text = input;
-    while let Some(first) = split_line(text) {
-        check_line(rt, first.line)?;
-        text = first.rest;
-    }
-    Ok(())
-}
-
 fn main(rt: HostRuntime) -> io::Result<()> {
     let mut buf = [0u8; MOST_INPUT];
-    let got = read_input(&mut rt.stdin(), &mut buf)?;
-    check_lines(&rt, &buf[0..got])
+    let n = read_input(&mut rt.stdin(), &mut buf)?;
+    for line in Lines::new(&buf[..n]) {
+        check_line(&rt, line)?;
+    }
+    Ok(())
 }

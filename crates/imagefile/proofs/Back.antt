@@ -7,7 +7,7 @@ use Rattle.tables.specs.Tables.{Table}
 use Rattle.imageformat.specs.Format.{bytes, head, row, rows, bodies, written}
 use Rattle.imagefile.specs.Shown.{head_count, file_row, file_body, file_entry, shown}
 use Rattle.imagefile.specs.Rules.{due, Passes}
-use Rattle.imagefile.proofs.Coding.{two_kept, row_kept}
+use Rattle.imageformat.proofs.Fields.{number_coded, row_coded}
 
 -- the entries that m rows from row k on show
 abbrev shown_from : List ℕ → ℕ → ℕ → Table
@@ -69,15 +69,15 @@ module _ (bs : List ℕ) (p : Passes bs) where
         ∙ ap (λ l. line (due bs k) size ++ l) (rows_back m (k + 1) (omega arith) ∙ ap (λ i. drop i bs) (sym next))
         ∙ ap (λ l. line (due bs k) l ++ drop (at + 14) bs) len
         ∙ ap (λ q. line q (file_row bs k).length ++ drop (at + 14) bs) (sym place)
-        ∙ ap (λ l. l ++ drop (at + 14) bs) (row_kept bs small at (omega arith))
+        ∙ ap (λ l. l ++ drop (at + 14) bs) (row_coded bs small at (omega arith))
         ∙ joined bs at 14
 
     -- the head, and all that follows it
     head_back : head (head_count bs) ++ drop 4 bs ≡ bs
     head_back =
         ap (λ v. (bytes 2 v ++ bytes 2 (head_count bs)) ++ drop 4 bs) (sym p.0.1)
-        ∙ ap (λ l. (l ++ bytes 2 (head_count bs)) ++ drop 4 bs) (two_kept bs small 0 (omega arith))
-        ∙ ap (λ l. (take 2 bs ++ l) ++ drop 4 bs) (two_kept bs small 2 (omega arith))
+        ∙ ap (λ l. (l ++ bytes 2 (head_count bs)) ++ drop 4 bs) (number_coded bs small 2 0 (omega arith))
+        ∙ ap (λ l. (take 2 bs ++ l) ++ drop 4 bs) (number_coded bs small 2 2 (omega arith))
         ∙ append_assoc (take 2 bs) (take 2 (drop 2 bs)) (drop 4 bs)
         ∙ ap (λ l. take 2 bs ++ l) (joined bs 2 2)
         ∙ take-append-drop 2 bs

@@ -5,16 +5,16 @@ use Rattle.imagefile.specs.Shown.{head_count, file_row, file_body}
 use Rattle.imagefile.specs.Rules.{Passes}
 use Rattle.imagefile.proofs.Back.{body_ends}
 
-module _ (bs : List ℕ) (w : Row) (k : ℕ) (e : w ≡ file_row bs k) where
+module _ (bs : List ℕ) (w : Row) (k len : ℕ) (e : w ≡ file_row bs k) (same : len ≡ w.length) where
   -- it ends in the file
-  pub part_ends : Passes bs → k < head_count bs → w.place + w.length ≤ length bs
+  pub part_ends : Passes bs → k < head_count bs → w.place + len ≤ length bs
   part_ends p h =
       let ends = body_ends bs p k h in
       let place = ap (λ (v : Row). v.place) e in
-      let len = ap (λ (v : Row). v.length) e in omega arith
+      let long = ap (λ (v : Row). v.length) e in omega arith
 
   -- it is the part from its place to its end
-  pub part_is : take (w.place + w.length - w.place) (drop w.place bs) ≡ file_body bs k
+  pub part_is : take (w.place + len - w.place) (drop w.place bs) ≡ file_body bs k
   part_is =
-      let size : w.place + w.length - w.place ≡ w.length = omega arith in
+      let size : w.place + len - w.place ≡ w.length = omega arith in
       ap (λ l. take l (drop w.place bs)) size ∙ ap (λ (v : Row). take v.length (drop v.place bs)) e

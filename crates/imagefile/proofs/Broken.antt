@@ -29,7 +29,7 @@ row_only : (w : FileRow) (place : ℕ) (f g : Refusal) → RowFaulty w place f �
 row_only w place = first_only (one_only BadStamp) (first_only (one_only RowLong) (first_only (one_only BadPlace) none_only))
 
 -- the fault of a row
-abbrev of_row : ℕ → Refusal → RowFault
+abbrev pub of_row : ℕ → Refusal → RowFault
 of_row k f = record { row = k; refusal = f }
 
 -- one row is the first that breaks a rule

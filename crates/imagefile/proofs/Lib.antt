@@ -1,4 +1,4 @@
-pub mod Coding
+pub mod Mapped
 pub mod Places
 pub mod Written
 pub mod Back

@@ -6,7 +6,7 @@ use Rattle.tables.specs.Tables.{Entry, Table, LawfulEntry, entry}
 use Rattle.imageformat.specs.Format.{row, rows, bodies, number_at}
 use Rattle.imageformat.specs.Rows.{row_at}
 use Rattle.imageformat.specs.declared.row.Row.{Row}
-use Rattle.imageformat.proofs.Numbers.{number_two, number_four}
+use Rattle.imageformat.proofs.Numbers.{coded_digits}
 
 -- where body k of a table begins, whose first body begins at p
 abbrev pub start : ℕ → Table → ℕ → ℕ
@@ -26,10 +26,10 @@ moved bs s at i e = sym (drop-drop i at bs) ∙ ap (drop i) e
 row_there : (bs rest : List ℕ) (x : Entry) (p at : ℕ) → LawfulEntry x → p < 4294967296 → drop at bs ≡ row x.edition x.hand p (length x.text) ++ rest → row_at bs at ≡ row_for p x
 row_there bs rest x p at fits h e =
     let s = row x.edition x.hand p (length x.text) ++ rest in
-    let edition : number_at 4 at bs ≡ x.edition = ap (λ l. number_from_digits 256 (take 4 l)) e ∙ number_four x.edition (omega arith) in
-    let hand : number_at 4 (at + 4) bs ≡ x.hand = ap (λ l. number_from_digits 256 (take 4 l)) (moved bs s at 4 e) ∙ number_four x.hand (omega arith) in
-    let place : number_at 4 (at + 8) bs ≡ p = ap (λ l. number_from_digits 256 (take 4 l)) (moved bs s at 8 e) ∙ number_four p h in
-    let len : number_at 2 (at + 12) bs ≡ length x.text = ap (λ l. number_from_digits 256 (take 2 l)) (moved bs s at 12 e) ∙ number_two (length x.text) (omega arith) in
+    let edition : number_at 4 at bs ≡ x.edition = ap (λ l. number_from_digits 256 (take 4 l)) e ∙ coded_digits 4 x.edition (omega arith) in
+    let hand : number_at 4 (at + 4) bs ≡ x.hand = ap (λ l. number_from_digits 256 (take 4 l)) (moved bs s at 4 e) ∙ coded_digits 4 x.hand (omega arith) in
+    let place : number_at 4 (at + 8) bs ≡ p = ap (λ l. number_from_digits 256 (take 4 l)) (moved bs s at 8 e) ∙ coded_digits 4 p h in
+    let len : number_at 2 (at + 12) bs ≡ length x.text = ap (λ l. number_from_digits 256 (take 2 l)) (moved bs s at 12 e) ∙ coded_digits 2 (length x.text) (omega arith) in
     simp (edition, hand, place, len)
 
 -- row k of the rows that are written at a place
@@ -61,8 +61,3 @@ start_more (x ∷ t) p (suc k) l = start_more t (p + length x.text) k (omega ari
 pub start_all : (t : Table) (p : ℕ) → start p t (length t) ≡ p + length (bodies t)
 start_all [] p = omega arith
 start_all (x ∷ t) p = start_all t (p + length x.text) ∙ simp length-append (omega arith)
-
--- a row has fourteen bytes
-pub length_rows : (t : Table) (p : ℕ) → length (rows p t) ≡ 14 * length t
-length_rows [] p = refl
-length_rows (x ∷ t) p = let r = length_rows t (p + length x.text) in omega arith

@@ -1,13 +1,13 @@
 -- The turns of the loop over the rows.
 use Rattle.std.proofs.Common.{◌≡◌, ℕ, ◌+◌, ◌<◌, List, length, sym, ap, ◌∙◌, subst, add-one, below_more}
+use Rattle.tables.specs.declared.refusal.Refusal.{Refusal}
 use Rattle.tables.specs.declared.refusal.Refusal.TheVariants.{BadEnd}
 use Rattle.imagefile.specs.Shown.{head_count, file_row}
 use Rattle.imagefile.specs.Rules.{HeadRule, RowRule, RowsRule, due}
 use Rattle.imagefile.specs.Faults.{First, broken, kept, NoMore, Faulty, InRow, RowFaulty}
-use Rattle.imagefile.specs.declared.faults.RowFault.{RowFault}
 use Rattle.imagefile.specs.declared.faults.FileFault.{FileFault}
 use Rattle.imagefile.specs.declared.faults.FileFault.TheVariants.{Whole, Row}
-use Rattle.imagefile.proofs.Broken.{row_broken}
+use Rattle.imagefile.proofs.Broken.{of_row, row_broken}
 
 -- the faults that come after those of the head
 abbrev BodyFaulty : List ℕ → FileFault → Type 0
@@ -26,12 +26,11 @@ unfolding Faulty
 after_head bs f head bad = kept head.0 (kept head.1 (kept head.2 (kept head.3 bad)))
 
 -- a fault of row k, whose body has to begin at a place, is a fault of the file
-pub row_fault : (bs : List ℕ) (x : RowFault) (k place : ℕ) → HeadRule bs → k < head_count bs → RowsRule bs k → place ≡ due bs k → x.row ≡ k → RowFaulty (file_row bs k) place x.refusal → Faulty bs (Row x)
-row_fault bs x k place head h before e same bad =
-    let at : ℕ → Type 0 = λ q. RowFaulty (file_row bs k) q x.refusal in
-    let of_row : ℕ → Type 0 = λ i. (i < head_count bs) × RowsRule bs i × RowFaulty (file_row bs i) (due bs i) x.refusal in
-    let there = subst of_row (sym same) (h, before, subst at e bad) in
-    after_head bs (Row x) head (broken (λ all. row_broken there.2 (all x.row there.0)) there)
+pub row_fault : (bs : List ℕ) (k place : ℕ) (f : Refusal) → HeadRule bs → k < head_count bs → RowsRule bs k → place ≡ due bs k → RowFaulty (file_row bs k) place f → Faulty bs (Row (of_row k f))
+row_fault bs k place f head h before e bad =
+    let at : ℕ → Type 0 = λ q. RowFaulty (file_row bs k) q f in
+    let there = subst at e bad in
+    after_head bs (Row (of_row k f)) head (broken (λ all. row_broken there (all k h)) (h, before, there))
 
 -- where the rows below k keep their rule and k is the count, all rows do
 pub all_rows : (bs : List ℕ) (k end : ℕ) → k ≡ head_count bs → end ≡ due bs k → RowsRule bs k → RowsRule bs (head_count bs) × (end ≡ due bs (head_count bs))

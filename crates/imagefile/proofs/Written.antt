@@ -1,29 +1,30 @@
 -- The written form of a lawful table keeps all rules and shows the table.
-use Rattle.std.proofs.Common.{◌≡◌, ℕ, zero, suc, ◌+◌, ◌*◌, ◌<◌, ◌≤◌, List, ◌++◌, length, take, drop, sym, ap, ◌∙◌, subst, arith, length-append}
+use Rattle.std.proofs.Common.{◌≡◌, ℕ, zero, suc, ◌+◌, ◌*◌, ◌<◌, ◌≤◌, List, ◌++◌, length, take, drop, sym, ap, ◌∙◌, subst, arith}
 use Rattle.std.proofs.lemmas.List.{drop_at}
 use Rattle.std.proofs.lemmas.List.FromFn.{fill_by_all}
 use Rattle.tables.specs.Tables.{Table, Lawful, blank, entry, of}
 use Rattle.imageformat.specs.Format.{rows, bodies, written}
 use Rattle.imageformat.specs.declared.row.Row.{Row}
-use Rattle.imageformat.proofs.Numbers.{number_two}
+use Rattle.imageformat.proofs.Lengths.{length_rows, length_written}
+use Rattle.imageformat.proofs.Numbers.{coded_digits}
 use Rattle.imagefile.specs.Shown.{head_version, head_count, file_row, file_entry, shown}
 use Rattle.imagefile.specs.Rules.{RowRule, due, Passes}
-use Rattle.imagefile.proofs.Places.{start, row_for, moved, rows_there, bodies_there, start_more, start_all, length_rows}
+use Rattle.imagefile.proofs.Places.{start, row_for, moved, rows_there, bodies_there, start_more, start_all}
 
 module _ (t : Table) (lawful : Lawful t) (bs : List ℕ) (e : bs ≡ written t) where
   -- the head says the table's count
   counted : head_count bs ≡ length t
-  counted = ap head_count e ∙ number_two (length t) (omega arith)
+  counted = ap head_count e ∙ coded_digits 2 (length t) (omega arith)
 
   -- the bodies stand after the rows
   bodies_at : drop (4 + 14 * length t) bs ≡ bodies t
   bodies_at =
       moved bs (rows (4 + 14 * length t) t ++ bodies t) 4 (14 * length t) (ap (drop 4) e)
-      ∙ drop_at (rows (4 + 14 * length t) t) (bodies t) (14 * length t) (length_rows t (4 + 14 * length t))
+      ∙ drop_at (rows (4 + 14 * length t) t) (bodies t) (14 * length t) (length_rows (4 + 14 * length t) t)
 
   -- the file ends with the last body
   long : length bs ≡ 4 + 14 * length t + length (bodies t)
-  long = ap length e ∙ simp (length-append, length_rows) (omega arith)
+  long = ap length e ∙ length_written t
 
   -- row k is that of entry k
   row_is : (k : ℕ) → k < length t → file_row bs k ≡ row_for (start (4 + 14 * length t) t k) (entry t k)

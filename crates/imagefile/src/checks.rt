@@ -1,4 +1,4 @@
-ghost use Rattle.std.specs.Prelude.{◌≡◌, ◌+◌, ◌*◌, ◌<◌, ◌≤◌, length, Ok, Err};
+ghost use Rattle.std.specs.Prelude.{◌≡◌, ◌+◌, ◌*◌, ◌<◌, ◌≤◌, length, Ok, Err, MatchResult};
 ghost use Rattle.imagefile.specs.Shown.{head_count, file_row, Accepted};
 ghost use Rattle.imagefile.specs.Rules.{HeadRule, RowRule};
 ghost use Rattle.imagefile.specs.Faults.{RowFaulty, Faulty};
@@ -6,12 +6,6 @@ ghost use Rattle.imagefile.specs.Faults.{RowFaulty, Faulty};
 use super::faults::{FileFault, RowFault};
 use imageformat::{HEAD_BYTES, ROW_BYTES, Row, VERSION, u16_at};
 use tables::{LONGEST_TEXT, MOST_ENTRIES, Refusal, Stamp};
-
-// The greatest count that a file's head may say.
-const GREATEST_COUNT: usize = MOST_ENTRIES;
-
-// The greatest length that a row may say.
-const GREATEST_LENGTH: usize = LONGEST_TEXT;
 
 // Row `k` of a file, where the row stands.
 fn row_of(bytes: &[u8], k: usize) -> Row
@@ -22,58 +16,51 @@ fn row_of(bytes: &[u8], k: usize) -> Row
 }
 
 // The count that a file's head says, or what the file breaks before its first row.
-fn check_head(bytes: &[u8]) -> Result<usize, FileFault>
-    ensures { elim result [ Ok n ↦ (n ≡ head_count bytes.now) × HeadRule bytes.now | Err f ↦ Faulty bytes.now f ] }
+fn check_head(bytes: &[u8]) -> Result<usize, Refusal>
+    ensures { MatchResult result (λ n. (n ≡ head_count bytes.now) × HeadRule bytes.now) (λ f. Faulty bytes.now (FileFault.Whole f)) }
 {
-    if bytes.len() < HEAD_BYTES {
-        return Err(FileFault::Whole(Refusal::FileShort));
-    }
-    let version = u16_at(bytes, 0).unwrap();
+    let numbers = u16_at(bytes, 0).zip(u16_at(bytes, 2));
+    let (version, count) = numbers.ok_or(Refusal::FileShort)?;
     if version != VERSION {
-        return Err(FileFault::Whole(Refusal::Version));
+        return Err(Refusal::Version);
     }
-    let count = usize::from(u16_at(bytes, 2).unwrap());
-    if count > GREATEST_COUNT {
-        return Err(FileFault::Whole(Refusal::CountHigh));
+    let count = usize::from(count);
+    if count > MOST_ENTRIES {
+        return Err(Refusal::CountHigh);
     }
     if bytes.len() < HEAD_BYTES + ROW_BYTES * count {
-        return Err(FileFault::Whole(Refusal::RowsShort));
+        return Err(Refusal::RowsShort);
     }
     Ok(count)
 }
 
-// The end of row `k`'s body, which has to begin at `place`, or what the row breaks first.
-fn check_row(bytes: &[u8], k: usize, place: usize) -> Result<usize, RowFault>
-    requires { 18 + 14 * k ≤ length bytes.now }
-    ensures { elim result [ Ok end ↦ (end ≡ (file_row bytes.now k).place + (file_row bytes.now k).length) × RowRule (file_row bytes.now k) place | Err f ↦ (f.row ≡ k) × RowFaulty (file_row bytes.now k) place f.refusal ] }
+// The end of a row's body, which has to begin at `place`, or what the row breaks first.
+fn check_row(row: Row, place: usize) -> Result<usize, Refusal>
+    ensures { MatchResult result (λ end. (end ≡ row.place + row.length) × RowRule row place) (RowFaulty row place) }
 {
-    let row = row_of(bytes, k);
-    if let Err(refusal) = Stamp::new(row.edition, row.hand) {
-        return Err(RowFault { row: k, refusal });
+    Stamp::new(row.edition, row.hand)?;
+    let length = usize::from(row.length);
+    if length > LONGEST_TEXT {
+        return Err(Refusal::RowLong);
     }
-    if row.length as usize > GREATEST_LENGTH {
-        return Err(RowFault {
-            row: k,
-            refusal: Refusal::RowLong,
-        });
-    }
+    // `as`, since usize has no From<u32>
     if row.place as usize != place {
-        return Err(RowFault {
-            row: k,
-            refusal: Refusal::BadPlace,
-        });
+        return Err(Refusal::BadPlace);
     }
-    Ok(place + row.length as usize)
+    Ok(place + length)
 }
 
 // Whether the bytes are the file of a lawful table; if not, what they break first.
 pub fn check(bytes: &[u8]) -> Result<(), FileFault>
     ensures { elim result [ Ok u ↦ Accepted bytes.now | Err f ↦ Faulty bytes.now f × ((g : FileFault) → Faulty bytes.now g → g ≡ f) × (Accepted bytes.now → ⊥) ] }
 {
-    let count = check_head(bytes)?;
+    let count = check_head(bytes).map_err(FileFault::Whole)?;
     let mut end = HEAD_BYTES + ROW_BYTES * count;
     for k in 0..count {
-        end = check_row(bytes, k, end)?;
+        end = check_row(row_of(bytes, k), end).map_err(move |refusal| RowFault {
+            row: k,
+            refusal,
+        })?;
     }
     if end != bytes.len() {
         return Err(FileFault::Whole(Refusal::BadEnd));

@@ -36,6 +36,7 @@ impl<'a> Reader<'a> {
     }
 
     // Row `e` of the file, if the file has so many.
+    #[tactic(auto, using(crate::specs::Laws::shown_length, crate::specs::Laws::shown_entry))]
     fn row(&self, e: usize) -> Option<Row>
         ensures { elim result [ Some w ↦ (e < length (shown self.now.bytes.now)) × (w ≡ file_row self.now.bytes.now e) × (w.edition ≡ (entry (shown self.now.bytes.now) e).edition) × (w.hand ≡ (entry (shown self.now.bytes.now) e).hand) | None ↦ length (shown self.now.bytes.now) ≤ e ] }
     {
@@ -50,8 +51,10 @@ impl<'a> Reader<'a> {
         ensures { elim result [ Some s ↦ (e < length (shown self.now.bytes.now)) × (s.now ≡ (entry (shown self.now.bytes.now) e).text) × (s.now ≡ file_body self.now.bytes.now e) | None ↦ length (shown self.now.bytes.now) ≤ e ] }
     {
         let row = self.row(e)?;
+        // `as`, since usize has no From<u32>
         let place = row.place as usize;
-        Some(&self.bytes[place..place + row.length as usize])
+        let length = usize::from(row.length);
+        Some(&self.bytes[place..place + length])
     }
 }
 
@@ -60,6 +63,7 @@ impl<'a> Readable for Reader<'a> {
 
     ghost lawful = { λ s. shown_lawful s.bytes.now (s.head, s.rows, s.end) };
 
+    #[tactic(auto, using(crate::specs::Laws::shown_length))]
     fn count(&self) -> usize {
         usize::from(u16_at(self.bytes, 2).unwrap())
     }

@@ -1,78 +1,80 @@
 -- Bytes to a number and back.
-use Rattle.std.proofs.Common.{◌≡◌, ℕ, suc, ◌+◌, ◌*◌, ◌/◌, ◌%◌, ◌<◌, ◌≤◌, List, [], ◌∷◌, ◌++◌, length, get_or, take, drop, sym, ap, ◌∙◌, arith, take-add}
-use Rattle.std.proofs.lemmas.List.{drop_more, drop-drop}
-use Rattle.std.specs.Int.Digits.{number_from_digits}
-use Rattle.imageformat.specs.Format.{bytes, row}
+use Rattle.std.proofs.Common.{◌≡◌, ℕ, zero, suc, ◌+◌, ◌*◌, ◌/◌, ◌%◌, ◌^◌, ◌<◌, List, [], ◌∷◌, length, sym, refl, ap, ◌∙◌, arith}
+use Rattle.std.proofs.Math.Nat.{pow-succ', mul_assoc, add-mul, mul-add-div_right, one-le-pow, mod-eq_of_lt, mod-lt, div-lt_iff_lt-mul}
+use Rattle.std.proofs.lemmas.Nat.{div-add-mod', div-mul-add}
+use Rattle.std.proofs.lemmas.Int.Digits.{number_lt}
+use Rattle.std.specs.Int.{w32, from_be_bytes}
+use Rattle.std.specs.Int.Digits.{number_from_digits, number_from_digits_after, AllBelowBase}
+use Rattle.imageformat.specs.Format.{bytes}
 
--- what stands in the bytes at a place, byte by byte
-pub window : (k : ℕ) (bs : List ℕ) (at : ℕ) → at < length bs → take (suc k) (drop at bs) ≡ get_or bs at 0 ∷ take k (drop (at + 1) bs)
-window k bs at h = ap (take (suc k)) (drop_more bs at 0 h)
+-- a power of 256 is above 0
+power : (k : ℕ) → 0 < 256 ^ k
+power k = one-le-pow k 256 (omega arith)
 
-pub two_at : (bs : List ℕ) (at : ℕ) → at + 2 ≤ length bs → take 2 (drop at bs) ≡ get_or bs at 0 ∷ (get_or bs (at + 1) 0 ∷ [])
-two_at bs at h = window 1 bs at (omega arith) ∙ ap (λ t. get_or bs at 0 ∷ t) (window 0 bs (at + 1) (omega arith))
+-- a multiple of the next power is one of this power
+shifted : (n k : ℕ) → n * 256 ^ suc k ≡ n * 256 * 256 ^ k
+shifted n k = ap (λ m. n * m) (pow-succ' 256 k) ∙ sym (mul_assoc n 256 (256 ^ k))
 
-pub four_at : (bs : List ℕ) (at : ℕ) → at + 4 ≤ length bs → take 4 (drop at bs) ≡ get_or bs at 0 ∷ (get_or bs (at + 1) 0 ∷ (get_or bs (at + 2) 0 ∷ (get_or bs (at + 3) 0 ∷ [])))
-four_at bs at h =
-    let e₂ : at + 1 + 1 ≡ at + 2 = omega arith in
-    let e₃ : at + 2 + 1 ≡ at + 3 = omega arith in
-    window 3 bs at (omega arith)
-    ∙ ap (λ t. get_or bs at 0 ∷ t) (window 2 bs (at + 1) (omega arith) ∙ ap (λ i. get_or bs (at + 1) 0 ∷ take 2 (drop i bs)) e₂)
-    ∙ ap (λ t. get_or bs at 0 ∷ (get_or bs (at + 1) 0 ∷ t)) (window 1 bs (at + 2) (omega arith) ∙ ap (λ i. get_or bs (at + 2) 0 ∷ take 1 (drop i bs)) e₃ ∙ ap (λ t. get_or bs (at + 2) 0 ∷ t) (window 0 bs (at + 3) (omega arith)))
+-- so many bytes of a number do not tell what stands above them
+above : (k n r : ℕ) → bytes k (n * 256 ^ k + r) ≡ bytes k r
+above zero n r = refl
+above (suc k) n r =
+    let c = 256 ^ k in
+    let high : (n * 256 * c + r) / c % 256 ≡ r / c % 256 = ap (λ q. q % 256) (mul-add-div_right (power k) (n * 256) r) ∙ wrapped n (r / c) in
+    ap (λ v. bytes (suc k) (v + r)) (shifted n k) ∙ ap (λ b. b ∷ bytes k (n * 256 * c + r)) high ∙ ap (λ bs. (r / c % 256) ∷ bs) (above k (n * 256) r)
+  where
+    wrapped : (m q : ℕ) → (m * 256 + q) % 256 ≡ q % 256
+    wrapped m q = omega arith
 
--- two bytes are the coding of their number
-pub two_coded : (a b : ℕ) → a < 256 → b < 256 → bytes 2 (a * 256 + b) ≡ a ∷ (b ∷ [])
-two_coded a b p q =
-    let x : (a * 256 + b) / 256 % 256 ≡ a = omega arith in
-    let y : (a * 256 + b) / 1 % 256 ≡ b = omega arith in
-    ap (λ h. h ∷ ((a * 256 + b) / 1 % 256 ∷ [])) x ∙ ap (λ l. a ∷ (l ∷ [])) y
+-- a number that stands before digits counts a power for each of them
+after : (n : ℕ) (ds : List ℕ) → number_from_digits_after 256 n ds ≡ n * 256 ^ length ds + number_from_digits 256 ds
+after n [] = omega arith
+after n (d ∷ ds) =
+    let c = 256 ^ length ds in
+    let here = after (n * 256 + d) ds in
+    let alone = after (0 * 256 + d) ds in
+    let parts = add-mul (n * 256) d c in
+    let same = shifted n (length ds) in omega arith
 
-pub two_number : (a b : ℕ) → a * 256 + b ≡ number_from_digits 256 (a ∷ (b ∷ []))
-two_number a b = omega arith
+-- bytes are the coding of their number
+pub digits_coded : (ds : List ℕ) → AllBelowBase 256 ds → bytes (length ds) (number_from_digits 256 ds) ≡ ds
+digits_coded [] small = refl
+digits_coded (d ∷ ds) (low, small) =
+    let k = length ds in
+    let c = 256 ^ k in
+    let r = number_from_digits 256 ds in
+    let is : number_from_digits 256 (d ∷ ds) ≡ d * c + r = after (0 * 256 + d) ds ∙ ap (λ m. m * c + r) (omega arith) in
+    let high : (d * c + r) / c % 256 ≡ d = ap (λ q. q % 256) (div-mul-add d c r (number_lt 256 ds small)) ∙ mod-eq_of_lt low in
+    ap (bytes (suc k)) is ∙ ap (λ b. b ∷ bytes k (d * c + r)) high ∙ ap (λ bs. d ∷ bs) (above k d r ∙ digits_coded ds small)
 
-pub four_coded : (a b c d : ℕ) → a < 256 → b < 256 → c < 256 → d < 256 → bytes 4 (a * 16777216 + b * 65536 + c * 256 + d) ≡ a ∷ (b ∷ (c ∷ (d ∷ [])))
-four_coded a b c d p q r s =
-    let n = a * 16777216 + b * 65536 + c * 256 + d in
-    let x : n / 16777216 % 256 ≡ a = omega arith in
-    let y : n / 65536 % 256 ≡ b = omega arith in
-    let z : n / 256 % 256 ≡ c = omega arith in
-    let w : n / 1 % 256 ≡ d = omega arith in
-    simp (x, y, z, w)
-
-pub four_number : (a b c d : ℕ) → a * 16777216 + b * 65536 + c * 256 + d ≡ number_from_digits 256 (a ∷ (b ∷ (c ∷ (d ∷ []))))
-four_number a b c d = omega arith
+-- a number in so many bytes has so many
+length_bytes : (k n : ℕ) → length (bytes k n) ≡ k
+length_bytes zero n = refl
+length_bytes (suc k) n = ap suc (length_bytes k n)
 
 -- a coded number is read back
-pub number_two : (n : ℕ) → n < 65536 → number_from_digits 256 (bytes 2 n) ≡ n
-number_two n h = omega arith
+pub coded_digits : (k n : ℕ) → n < 256 ^ k → number_from_digits 256 (bytes k n) ≡ n
+coded_digits zero n h = omega arith
+coded_digits (suc k) n h =
+    let c = 256 ^ k in
+    let q = n / c in
+    let r = n % c in
+    let parts : q * c + r ≡ n = div-add-mod' n c in
+    let high : q < 256 = (div-lt_iff_lt-mul (power k)).1 (omega (arith, pow-succ' 256 k)) in
+    let top : 0 * 256 + q % 256 ≡ q = omega arith in
+    let low : bytes k n ≡ bytes k r = ap (bytes k) (sym parts) ∙ above k q r in
+    after (0 * 256 + q % 256) (bytes k n)
+    ∙ ap (λ m. m * 256 ^ length (bytes k n) + number_from_digits 256 (bytes k n)) top
+    ∙ ap (λ m. q * 256 ^ m + number_from_digits 256 (bytes k n)) (length_bytes k n)
+    ∙ ap (λ bs. q * c + number_from_digits 256 bs) low
+    ∙ ap (λ m. q * c + m) (coded_digits k r (mod-lt n (power k)))
+    ∙ parts
 
-pub number_four : (n : ℕ) → n < 4294967296 → number_from_digits 256 (bytes 4 n) ≡ n
-number_four n h =
-    let x : n / 16777216 % 256 ≡ n / 16777216 = omega arith in
-    let y : n / 16777216 * 256 + n / 65536 % 256 ≡ n / 65536 = omega arith in
-    let z : n / 65536 * 256 + n / 256 % 256 ≡ n / 256 = omega arith in
-    let w : n / 256 * 256 + n / 1 % 256 ≡ n = omega arith in
-    omega arith
-
--- fourteen bytes at a place, field by field
-pub fourteen_at : (bs : List ℕ) (at : ℕ) → take 14 (drop at bs) ≡ take 4 (drop at bs) ++ (take 4 (drop (at + 4) bs) ++ (take 4 (drop (at + 8) bs) ++ take 2 (drop (at + 12) bs)))
-fourteen_at bs at =
-    let e₈ : at + 4 + 4 ≡ at + 8 = omega arith in
-    let e₁₂ : at + 8 + 4 ≡ at + 12 = omega arith in
-    part 4 10 at
-    ∙ ap (λ t. take 4 (drop at bs) ++ t)
-    (part 4 6 (at + 4)
-    ∙ ap (λ p. take 4 (drop (at + 4) bs) ++ take 6 (drop p bs)) e₈
-    ∙ ap (λ t. take 4 (drop (at + 4) bs) ++ t)
-    (part 4 2 (at + 8) ∙ ap (λ p. take 4 (drop (at + 8) bs) ++ take 2 (drop p bs)) e₁₂))
-  where
-    part : (m n p : ℕ) → take (m + n) (drop p bs) ≡ take m (drop p bs) ++ take n (drop (p + m) bs)
-    part m n p = take-add m n (drop p bs) ∙ ap (λ t. take m (drop p bs) ++ take n t) (drop-drop m p bs)
-
--- a row is coded in its place where each of its fields is
-pub row_coded : (bs : List ℕ) (at edition hand place len : ℕ) → bytes 4 edition ≡ take 4 (drop at bs) → bytes 4 hand ≡ take 4 (drop (at + 4) bs) → bytes 4 place ≡ take 4 (drop (at + 8) bs) → bytes 2 len ≡ take 2 (drop (at + 12) bs) → row edition hand place len ≡ take 14 (drop at bs)
-row_coded bs at edition hand place len e h p l =
-    ap (λ t. t ++ (bytes 4 hand ++ (bytes 4 place ++ bytes 2 len))) e
-    ∙ ap (λ t. take 4 (drop at bs) ++ (t ++ (bytes 4 place ++ bytes 2 len))) h
-    ∙ ap (λ t. take 4 (drop at bs) ++ (take 4 (drop (at + 4) bs) ++ (t ++ bytes 2 len))) p
-    ∙ ap (λ t. take 4 (drop at bs) ++ (take 4 (drop (at + 4) bs) ++ (take 4 (drop (at + 8) bs) ++ t))) l
-    ∙ sym (fourteen_at bs at)
+-- what std reads in four bytes
+pub four_number : (ds : List ℕ) → length ds ≡ 4 → from_be_bytes w32 ds ≡ number_from_digits 256 ds
+four_number [] e = absurd (omega arith)
+four_number (a ∷ []) e = absurd (omega arith)
+four_number (a ∷ (b ∷ [])) e = absurd (omega arith)
+four_number (a ∷ (b ∷ (c ∷ []))) e = absurd (omega arith)
+four_number (a ∷ (b ∷ (c ∷ (d ∷ [])))) e = omega arith
+four_number (a ∷ (b ∷ (c ∷ (d ∷ (x ∷ ds))))) e = absurd (omega arith)

@@ -1,4 +1,4 @@
-ghost use Rattle.std.specs.Prelude.{◌≡◌, ◌+◌, ◌<◌, ◌≤◌, length, take, drop, Some, None};
+ghost use Rattle.std.specs.Prelude.{◌≡◌, ◌+◌, ◌<◌, ◌≤◌, length, take, drop, Some, None, MatchOption};
 ghost use Rattle.imageformat.specs.Format.{bytes as coded, head, row as coded_row, number_at};
 ghost use Rattle.imageformat.specs.Rows.{row_at};
 
@@ -25,7 +25,7 @@ pub struct Row {
 }
 
 // The first four bytes of a file of `count` entries.
-pub fn head_bytes(count: u16) -> [u8; 4]
+pub fn head_bytes(count: u16) -> [u8; HEAD_BYTES]
     ensures { result ≡ head count }
 {
     let v = VERSION.to_be_bytes();
@@ -33,31 +33,26 @@ pub fn head_bytes(count: u16) -> [u8; 4]
     [v[0], v[1], n[0], n[1]]
 }
 
+// The `N` bytes at `at`, if so many stand there.
+fn bytes_at<const N: usize>(bytes: &[u8], at: usize) -> Option<[u8; N]>
+    ensures { MatchOption result (length bytes.now < at + N) (λ part. (at + N ≤ length bytes.now) × (part ≡ take N (drop at bytes.now))) }
+{
+    bytes.get(at..)?.first_chunk().copied()
+}
+
 // The number in the two bytes at `at`.
 pub fn u16_at(bytes: &[u8], at: usize) -> Option<u16>
     ensures { elim result [ Some n ↦ (at + 2 ≤ length bytes.now) × (n ≡ number_at 2 at bytes.now) × (coded 2 n ≡ take 2 (drop at bytes.now)) | None ↦ length bytes.now < at + 2 ] }
 {
-    if bytes.len() < 2 || bytes.len() - 2 < at {
-        return None;
-    }
-    Some(u16::from_be_bytes([bytes[at], bytes[at + 1]]))
-}
-
-// The number in the four bytes at `at`.
-fn u32_at(bytes: &[u8], at: usize) -> u32
-    requires { at + 4 ≤ length bytes.now }
-    ensures number { result ≡ number_at 4 at bytes.now }
-    ensures coding { coded 4 result ≡ take 4 (drop at bytes.now) }
-{
-    u32::from_be_bytes([bytes[at], bytes[at + 1], bytes[at + 2], bytes[at + 3]])
+    Some(u16::from_be_bytes(bytes_at(bytes, at)?))
 }
 
 impl Row {
     // The row's fourteen bytes.
-    pub fn to_bytes(&self) -> [u8; 14]
+    pub fn to_bytes(&self) -> [u8; ROW_BYTES]
         ensures { result ≡ coded_row self.now.edition self.now.hand self.now.place self.now.length }
     {
-        let mut out = [0u8; 14];
+        let mut out = [0; ROW_BYTES];
         out[0..4].copy_from_slice(&self.edition.to_be_bytes());
         out[4..8].copy_from_slice(&self.hand.to_be_bytes());
         out[8..12].copy_from_slice(&self.place.to_be_bytes());
@@ -69,15 +64,11 @@ impl Row {
     pub fn read(bytes: &[u8], at: usize) -> Option<Row>
         ensures { elim result [ Some w ↦ (at + 14 ≤ length bytes.now) × (w ≡ row_at bytes.now at) × (coded_row w.edition w.hand w.place w.length ≡ take 14 (drop at bytes.now)) | None ↦ length bytes.now < at + 14 ] }
     {
-        if bytes.len() < ROW_BYTES || bytes.len() - ROW_BYTES < at {
-            return None;
-        }
-        let length = u16_at(bytes, at + 12)?;
         Some(Row {
-            edition: u32_at(bytes, at),
-            hand: u32_at(bytes, at + 4),
-            place: u32_at(bytes, at + 8),
-            length,
+            edition: u32::from_be_bytes(bytes_at(bytes, at)?),
+            hand: u32::from_be_bytes(bytes_at(bytes, at + 4)?),
+            place: u32::from_be_bytes(bytes_at(bytes, at + 8)?),
+            length: u16_at(bytes, at + 12)?,
         })
     }
 }

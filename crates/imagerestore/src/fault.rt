@@ -12,6 +12,7 @@ pub enum RestoreFault {
     Table(Refusal),
 }
 
+// No trait for the two questions that a file's fault answers too: no call is generic over faults.
 impl RestoreFault {
     // The row that the fault is in, if it is in one.
     pub fn row(&self) -> Option<usize>

@@ -11,7 +11,3 @@ abbrev pub WriteAnswer : Table → List ℕ → Result ℕ Refusal → List ℕ 
 WriteAnswer t buf r buf' =
     (room (length t) ≤ length buf → (r ≡ Ok (length (written t))) × (buf' ≡ written t ++ drop (length (written t)) buf))
     × (length buf < room (length t) → (r ≡ Err WriterShort) × (buf' ≡ buf))
-
--- what stands behind the table's file is as it was
-abbrev pub Behind : Table → List ℕ → List ℕ → Type 0
-Behind t buf buf' = drop (length (written t)) buf' ≡ drop (length (written t)) buf

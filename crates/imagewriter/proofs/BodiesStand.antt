@@ -2,16 +2,18 @@
 use Rattle.std.proofs.Common.{◌≡◌, ℕ, ◌+◌, ◌-◌, ◌*◌, ◌<◌, ◌≤◌, List, ◌++◌, length, take, drop, sym, ap, ◌∙◌, arith}
 use lib.Seq.{drop-append-add}
 use Rattle.std.proofs.lemmas.List.{append_assoc, length-append, take-take, take_all, drop-take}
-use Rattle.tables.specs.Tables.{Table, Lawful, entry}
+use Rattle.tables.specs.Tables.{Table, entry}
 use Rattle.std.specs.Int.Digits.{number_from_digits}
 use Rattle.imageformat.specs.Format.{head, rows, bodies, written}
-use Rattle.imageformat.proofs.Numbers.{number_two}
+use Rattle.imageformat.proofs.Lengths.{length_written}
+use Rattle.imageformat.proofs.Numbers.{coded_digits}
 use Rattle.imagewriter.specs.Places.{room, row_place, put_at}
-use Rattle.imagewriter.specs.Answers.{BodyFits, length_named}
+use Rattle.imagewriter.specs.Answers.{At, BodyFits, length_named}
 use Rattle.imagewriter.specs.Standing.{BodiesStand}
-use Rattle.imagewriter.specs.declared.writer.Bodies.{Bodies}
+use Rattle.imagewriter.specs.declared.writer.TakesBodies.{TakesBodies}
+use Rattle.imagewriter.specs.declared.writer.Writer.{Writer}
 use Rattle.imagewriter.proofs.Overwriting.{take_put}
-use Rattle.imagewriter.proofs.Files.{length_in_rows, bodies_more, length_written}
+use Rattle.imagewriter.proofs.Files.{length_in_rows, bodies_more}
 
 -- two bytes within the front of a buffer
 within_front : (m p : ℕ) (buf : List ℕ) → m + 2 ≤ p → take 2 (drop m buf) ≡ take 2 (drop m (take p buf))
@@ -22,7 +24,7 @@ within_front m p buf h =
     ∙ ap (λ z. take 2 (drop m (take z buf))) q
 
 -- the next row names the length of its entry's text
-pub named : (t : Table) (w : Bodies) (buf : List ℕ) → w.standing < w.count → BodiesStand t w buf → length_named w.standing buf ≡ length (entry t w.standing).text
+pub named : (t : Table) (w : Writer TakesBodies) (buf : List ℕ) → w.standing < w.count → BodiesStand t w buf → length_named w.standing buf ≡ length (entry t w.standing).text
 named t w buf more (lawful, all, at, front) =
     let n = w.count in
     let k = w.standing in
@@ -36,39 +38,44 @@ named t w buf more (lawful, all, at, front) =
     ∙ ap (λ m. take 2 (drop m (head n ++ (rows p t ++ bodies (take k t))))) from
     ∙ ap (take 2) (drop-append-add (head n) (rows p t ++ bodies (take k t)) (14 * k + 12))
     ∙ length_in_rows p t k (bodies (take k t)) low)
-    ∙ number_two (length (entry t k).text) (omega arith)
+    ∙ coded_digits 2 (length (entry t k).text) (omega arith)
 
 -- a text as long as its entry's fits its row
-pub own_fits : (t : Table) (w : Bodies) (buf text : List ℕ) → w.standing < w.count → BodiesStand t w buf → length text ≡ length (entry t w.standing).text → BodyFits w.standing buf text
+pub own_fits : (t : Table) (w : Writer TakesBodies) (buf text : List ℕ) → w.standing < w.count → BodiesStand t w buf → length text ≡ length (entry t w.standing).text → BodyFits w.standing buf text
 own_fits t w buf text more stood same =
     (omega (arith, (stood.0.1 w.standing (omega arith)).0), same ∙ sym (named t w buf more stood))
 
 -- one more body stands: the text of the next entry
-module _ (t : Table) (text : List ℕ) (w : Bodies) (buf buf' : List ℕ) (own : text ≡ (entry t w.standing).text) (put : buf' ≡ put_at w.place text buf) where
+module _ (t : Table) (text : List ℕ) (w w' : Writer TakesBodies) (buf buf' : List ℕ) (own : text ≡ (entry t w.standing).text) (put : buf' ≡ put_at w.place text buf) (now : At w.count (w.standing + 1) (w.place + length text) w') where
   -- the bodies that stand then
   abbrev taken : List ℕ
   taken = bodies (take (w.standing + 1) t)
 
-  pub body_stands : room w.count ≤ length buf → w.standing < w.count → BodiesStand t w buf → Lawful t × (w.count ≡ length t) × (w.place + length text ≡ row_place w.count + length taken) × (take (w.place + length text) buf' ≡ head w.count ++ (rows (row_place w.count) t ++ taken))
+  pub body_stands : room w.count ≤ length buf → w.standing < w.count → BodiesStand t w buf → BodiesStand t w' buf'
   body_stands roomy more (lawful, all, at, front) =
       let n = w.count in
       let r = rows (row_place n) t in
       let b = bodies (take w.standing t) in
       let low : w.standing < length t = omega arith in
       let next : taken ≡ b ++ text = bodies_more t w.standing low ∙ ap (λ z. b ++ z) (sym own) in
+      let same : bodies (take w'.standing t) ≡ taken = ap (λ k. bodies (take k t)) now.1 in
+      let here = ap length same in
       let short : length text ≤ 96 = omega (arith, (lawful.1 w.standing low).0, ap length own) in (
         lawful,
-        all,
-        omega (arith, ap length next, length-append b text),
-        ap (take (w.place + length text)) put
+        now.0 ∙ all,
+        omega (arith, now.0, now.2, here, ap length next, length-append b text),
+        ap (λ m. take m buf') now.2
+            ∙ ap (take (w.place + length text)) put
             ∙ take_put w.place text buf (omega arith)
             ∙ ap (λ z. z ++ text) front
             ∙ append_assoc (head n) (r ++ b) text
-            ∙ ap (λ z. head n ++ z) (append_assoc r b text ∙ ap (λ z. r ++ z) (sym next)),
+            ∙ ap (λ z. head n ++ z) (append_assoc r b text ∙ ap (λ z. r ++ z) (sym next))
+            ∙ ap (λ m. head m ++ (rows (row_place m) t ++ taken)) (sym now.0)
+            ∙ ap (λ z. head w'.count ++ (rows (row_place w'.count) t ++ z)) (sym same),
       )
 
 -- a finished file is its table's
-pub finish_stands : (t : Table) (w : Bodies) (buf : List ℕ) → w.standing ≡ w.count → BodiesStand t w buf → (w.place ≡ length (written t)) × (take (length (written t)) buf ≡ written t)
+pub finish_stands : (t : Table) (w : Writer TakesBodies) (buf : List ℕ) → w.standing ≡ w.count → BodiesStand t w buf → (w.place ≡ length (written t)) × (take (length (written t)) buf ≡ written t)
 finish_stands t w buf every (lawful, all, at, front) = (long, ap (λ m. take m buf) (sym long) ∙ front ∙ whole)
   where
     those : take w.standing t ≡ t

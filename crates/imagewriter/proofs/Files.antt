@@ -3,18 +3,11 @@ use Rattle.std.proofs.Common.{◌≡◌, ℕ, zero, suc, ◌+◌, ◌*◌, ◌<�
 use lib.Seq.{drop-append-add}
 use Rattle.std.proofs.lemmas.List.{append_assoc, append-nil, length-append, take_more}
 use Rattle.tables.specs.Tables.{Entry, Table, blank, entry}
-use Rattle.imageformat.specs.Format.{bytes, row, rows, bodies, written}
+use Rattle.imageformat.specs.Format.{bytes, row, rows, bodies}
 
 -- the row of an entry whose body begins at a place
 abbrev pub row_of : ℕ → Entry → List ℕ
 row_of p x = row x.edition x.hand p (length x.text)
-
--- a row has fourteen bytes
-pub length_rows : (p : ℕ) (t : Table) → length (rows p t) ≡ 14 * length t
-length_rows p [] = refl
-length_rows p (x ∷ t) =
-    let rest = length_rows (p + length x.text) t in
-    length-append (row_of p x) (rows (p + length x.text) t) ∙ omega arith
 
 -- one more row
 pub rows_push : (p : ℕ) (t : Table) (x : Entry) → rows p (t ++ (x ∷ [])) ≡ rows p t ++ row_of (p + length (bodies t)) x
@@ -50,9 +43,3 @@ length_in_rows p (x ∷ t) (suc k) rest h =
 -- one more body of a table
 pub bodies_more : (t : Table) (k : ℕ) → k < length t → bodies (take (k + 1) t) ≡ bodies (take k t) ++ (entry t k).text
 bodies_more t k h = ap bodies (take_more t k blank h) ∙ bodies_push (take k t) (entry t k)
-
--- the length of a file
-pub length_written : (t : Table) → length (written t) ≡ 4 + 14 * length t + length (bodies t)
-length_written t =
-    let p = 4 + 14 * length t in
-    omega (arith, length-append (rows p t) (bodies t), length_rows p t)

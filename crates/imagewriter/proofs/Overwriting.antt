@@ -6,11 +6,11 @@ use Rattle.imagewriter.specs.Places.{put_at}
 
 module _ (at : ℕ) (bs buf : List ℕ) (fits : at + length bs ≤ length buf) where
   -- the bytes and what stands before them
-  pub front_length : length (take at buf ++ bs) ≡ at + length bs
+  front_length : length (take at buf ++ bs) ≡ at + length bs
   front_length = length-append (take at buf) bs ∙ ap (λ n. n + length bs) (length-take-le at buf (omega arith))
 
   -- the buffer in two parts
-  pub put_split : put_at at bs buf ≡ (take at buf ++ bs) ++ drop (at + length bs) buf
+  put_split : put_at at bs buf ≡ (take at buf ++ bs) ++ drop (at + length bs) buf
   put_split = sym (append_assoc (take at buf) bs (drop (at + length bs) buf))
 
   pub take_put : take (at + length bs) (put_at at bs buf) ≡ take at buf ++ bs

@@ -5,13 +5,15 @@ use Rattle.std.proofs.lemmas.Bool.{cases_lt}
 use Rattle.tables.specs.Tables.{Entry, Table, Lawful, LawfulEntry, entry, blank}
 use Rattle.imageformat.specs.Format.{head, row, rows, bodies}
 use Rattle.imagewriter.specs.Places.{room, row_place, put_at}
+use Rattle.imagewriter.specs.Answers.{At}
 use Rattle.imagewriter.specs.Standing.{RowsStand}
-use Rattle.imagewriter.specs.declared.writer.Rows.{Rows}
+use Rattle.imagewriter.specs.declared.writer.TakesRows.{TakesRows}
+use Rattle.imagewriter.specs.declared.writer.Writer.{Writer}
 use Rattle.imagewriter.proofs.Overwriting.{take_put}
 use Rattle.imagewriter.proofs.Files.{row_of, rows_push, bodies_push}
 
 -- a lawful table stays lawful with one more lawful entry
-pub lawful_push : (t : Table) (x : Entry) → length t < 128 → LawfulEntry x → Lawful t → Lawful (t ++ (x ∷ []))
+lawful_push : (t : Table) (x : Entry) → length t < 128 → LawfulEntry x → Lawful t → Lawful (t ++ (x ∷ []))
 lawful_push t x few ok (most, each) =
     (omega (arith, length_push t x), λ e h. by_place e h (cases_lt e (length t)))
   where
@@ -21,19 +23,19 @@ lawful_push t x few ok (most, each) =
         subst LawfulEntry (sym (get_or_push t x blank e (omega (arith, length_push t x)))) ok
 
 -- one more row stands: that of the entry x
-module _ (t : Table) (x : Entry) (w : Rows) (buf buf' : List ℕ) (len : ℕ) (is : length x.text ≡ len) (put : buf' ≡ put_at (row_place w.standing) (row x.edition x.hand w.place len) buf) where
+module _ (t : Table) (x : Entry) (w w' : Writer TakesRows) (buf buf' : List ℕ) (len : ℕ) (is : length x.text ≡ len) (put : buf' ≡ put_at (row_place w.standing) (row x.edition x.hand w.place len) buf) (now : At w.count (w.standing + 1) (w.place + len) w') where
   -- the table with the entry
   abbrev longer : Table
   longer = t ++ (x ∷ [])
 
-  pub row_stands : LawfulEntry x → room w.count ≤ length buf → w.standing < w.count → RowsStand t w buf → Lawful longer × (w.standing + 1 ≡ length longer) × (w.place + len ≡ row_place w.count + length (bodies longer)) × (take (row_place (length longer)) buf' ≡ head w.count ++ rows (row_place w.count) longer)
+  pub row_stands : LawfulEntry x → room w.count ≤ length buf → w.standing < w.count → RowsStand t w buf → RowsStand longer w' buf'
   row_stands ok roomy more (lawful, k, at, front) =
       let n = w.count in
       let r = row_of w.place x in
       let end : row_place (length longer) ≡ row_place w.standing + 14 = omega (arith, length_push t x) in (
         lawful_push t x (omega arith) ok lawful,
-        omega (arith, length_push t x),
-        omega (arith, ap length (bodies_push t x), length-append (bodies t) x.text),
+        omega (arith, now.1, length_push t x),
+        omega (arith, now.0, now.2, ap length (bodies_push t x), length-append (bodies t) x.text),
         ap (λ m. take m buf') end
             ∙ ap (take (row_place w.standing + 14)) (put ∙ ap (λ m. put_at (row_place w.standing) (row x.edition x.hand w.place m) buf) (sym is))
             ∙ take_put (row_place w.standing) r buf (omega arith)
@@ -41,5 +43,6 @@ module _ (t : Table) (x : Entry) (w : Rows) (buf buf' : List ℕ) (len : ℕ) (i
             ∙ ap (λ z. z ++ r) front
             ∙ ap (λ q. (head n ++ rows (row_place n) t) ++ row_of q x) at
             ∙ append_assoc (head n) (rows (row_place n) t) (row_of (row_place n + length (bodies t)) x)
-            ∙ ap (λ z. head n ++ z) (sym (rows_push (row_place n) t x)),
+            ∙ ap (λ z. head n ++ z) (sym (rows_push (row_place n) t x))
+            ∙ ap (λ m. head m ++ rows (row_place m) longer) (sym now.0),
       )

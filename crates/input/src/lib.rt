@@ -12,17 +12,21 @@ ghost use Rattle.std.specs.Prelude.{◌≤◌, length, IfOk};
 use std::io;
 use std::io::Read;
 
-// Reads into `buf` until it is full or the input ends, and says how much came.
+// The most bytes of standard input that a program reads.
+pub const MOST_INPUT: usize = 65_536;
+
+// Reads into `buf` until it is full or the input ends, and says how much came. Into a caller's buffer and no Vec, so
+// that it cannot run out of memory.
 pub fn read_input<R: Read>(input: &mut R, buf: &mut [u8]) -> io::Result<usize>
     ensures { IfOk result (λ n. n ≤ length buf.old) }
 {
-    let mut got = 0;
-    while got < buf.len() {
-        let n = input.read(&mut buf[got..])?;
-        if n == 0 {
-            break;
+    let size = buf.len();
+    let mut room = buf;
+    while !room.is_empty() {
+        match input.read(room)? {
+            0 => break,
+            n => room = &mut room[n..],
         }
-        got += n;
     }
-    Ok(got)
+    Ok(size - room.len())
 }

@@ -3,10 +3,11 @@ use Rattle.std.proofs.Common.{◌≡◌, ℕ, zero, suc, ◌+◌, ◌<◌, ◌�
 use Rattle.rules.specs.Numbers.{maybe, count_below, one_if}
 use Rattle.rules.proofs.Tests.{bool_cases, not_both, and_true, same_cases, eqb_self, some_none, eqb_apart}
 use Rattle.rules.proofs.Below.{count_same}
-use Rattle.keyed.specs.Keyed.{is_key, position, find, absent, distinct, under, all_under, count_taken}
-use Rattle.keyed.proofs.Positions.{one_on, position_split}
+use Rattle.std.specs.List.{position}
+use Rattle.keyed.specs.Keyed.{is_key, find, absent, distinct, under, all_under, count_taken}
+use Rattle.keyed.proofs.Positions.{one_on, position_cons, position_split}
 use Rattle.keyed.proofs.Finding.{is_key_of, find_behind, absent_missing}
-use Rattle.keyed.proofs.Under.{lt_of}
+use Rattle.std.proofs.lemmas.Bool.{ltb-true}
 
 -- 1 for a key that passes, 0 for any other and for none
 abbrev pub counted : (ℕ → Bool) → Option ℕ → ℕ
@@ -68,7 +69,7 @@ count_find key p n (x ∷ xs) a u =
         let at_k : one_if (p k && is_some (find key (x ∷ xs) k)) ≡ one_if (p k) =
         ap (λ c. one_if (p k && is_some (cond c (Some x) (find key xs k)))) (is_key_of k kx ∙ eqb_self k) ∙ ap one_if (and_true_right (p k)) in
         let e =
-        count_at n k (λ s. p s && is_some (find key (x ∷ xs) s)) (λ s. p s && is_some (find key xs s)) (lt_of v) (ap (λ r. p k && is_some r) gone ∙ and_false (p k))
+        count_at n k (λ s. p s && is_some (find key (x ∷ xs) s)) (λ s. p s && is_some (find key xs s)) (ltb-true k n v) (ap (λ r. p k && is_some r) gone ∙ and_false (p k))
         (λ j m. ap (λ c. p j && is_some (cond c (Some x) (find key xs j))) (is_key_of j kx ∙ eqb_apart m)) in
         omega (arith, h, at_k, e, ih)
 
@@ -100,7 +101,8 @@ count_room key p q (x ∷ xs) i z e =
 pub count_full : {X : Type 0} (key : X → Option ℕ) (p : ℕ → Bool) (l : List X) → position (λ x. not (is_some (key x))) l ≡ None
     → ((k : ℕ) → p k ≡ false → find key l k ≡ None) → count_taken key p l ≡ length l
 count_full key p [] e h = refl
-count_full {X} key p (x ∷ xs) e h = go (count_full key p xs) (key x) refl (position (λ x. not (is_some (key x))) xs) refl e
+count_full {X} key p (x ∷ xs) e h =
+    go (count_full key p xs) (key x) refl (position (λ x. not (is_some (key x))) xs) refl (sym (position_cons (λ x. not (is_some (key x))) x xs) ∙ e)
   where
     free : X → Bool
     free x = not (is_some (key x))

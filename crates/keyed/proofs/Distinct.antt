@@ -1,7 +1,8 @@
 -- A change at one place keeps the numbers distinct.
 use Rattle.std.proofs.Common.{◌≡◌, ℕ, true, false, cond, not, eqb, List, [], ◌∷◌, set, is_some, Some, None, Option, sym, refl, ap, ◌∙◌, subst, inl, inr}
 use Rattle.rules.proofs.Tests.{not_both, not_true, and_true, same_cases, eqb_self, some_none}
-use Rattle.keyed.specs.Keyed.{is_key, position, find, absent, distinct}
+use Rattle.std.specs.List.{position}
+use Rattle.keyed.specs.Keyed.{is_key, find, absent, distinct}
 use Rattle.keyed.proofs.Positions.{position_split}
 use Rattle.keyed.proofs.Finding.{not_there, and_both, is_key_true, find_behind, find_changed, find_cleared, find_added}
 

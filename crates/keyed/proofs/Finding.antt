@@ -3,8 +3,9 @@ use Rattle.std.proofs.Common.{◌≡◌, ℕ, suc, Bool, true, false, cond, not,
 use mathlib.Core.Bool.{false≢true}
 use Rattle.rules.specs.Numbers.{changed}
 use Rattle.rules.proofs.Tests.{not_both, not_true, and_true, same_cases, some_none}
-use Rattle.keyed.specs.Keyed.{is_key, position, find, absent, distinct}
-use Rattle.keyed.proofs.Positions.{one_on, position_split, position_at}
+use Rattle.std.specs.List.{position}
+use Rattle.keyed.specs.Keyed.{is_key, find, absent, distinct}
+use Rattle.keyed.proofs.Positions.{one_on, position_cons, position_split, position_at}
 
 -- a value that is not there
 pub not_there : {A : Type 0} (x : Option A) → is_some x ≡ false → x ≡ None
@@ -25,7 +26,7 @@ pub is_key_of : {o : Option ℕ} {k : ℕ} (s : ℕ) → o ≡ Some k → is_key
 is_key_of s e = ap (λ o. is_key o s) e
 
 -- a free place has no key
-pub free_none : (o : Option ℕ) → not (is_some o) ≡ true → o ≡ None
+pub free_none : {A : Type 0} (o : Option A) → not (is_some o) ≡ true → o ≡ None
 free_none o e = not_there o (not_true (is_some o) e)
 
 -- one test asked twice, and two that exclude one another asked in either order
@@ -63,7 +64,8 @@ find_place key (x ∷ xs) s i d e =
 -- nothing is found where none has the place
 pub find_missing : {X : Type 0} (key : X → Option ℕ) (l : List X) (s : ℕ) → position (λ x. is_key (key x) s) l ≡ None → find key l s ≡ None
 find_missing key [] s e = refl
-find_missing key (x ∷ xs) s e = go (find_missing key xs s) (is_key (key x) s) refl (position (λ x. is_key (key x) s) xs) refl e
+find_missing key (x ∷ xs) s e =
+    go (find_missing key xs s) (is_key (key x) s) refl (position (λ x. is_key (key x) s) xs) refl (sym (position_cons (λ x. is_key (key x) s) x xs) ∙ e)
   where
     go : (position (λ x. is_key (key x) s) xs ≡ None → find key xs s ≡ None) → (b : Bool) → is_key (key x) s ≡ b → (o : Option ℕ)
         → position (λ x. is_key (key x) s) xs ≡ o → cond (is_key (key x) s) (Some 0) (one_on (position (λ x. is_key (key x) s) xs)) ≡ None → find key (x ∷ xs) s ≡ None

@@ -4,5 +4,6 @@ pub mod Distinct
 pub mod Under
 pub mod Counting
 pub mod Testing
-pub mod Mapping
 pub mod Every
+pub mod Mapping
+pub mod Held

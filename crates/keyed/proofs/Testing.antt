@@ -1,13 +1,17 @@
 -- Whether one that is taken passes.
-use Rattle.std.proofs.Common.{◌≡◌, ℕ, Bool, true, false, cond, not, ◌||◌, List, [], ◌∷◌, is_some, Some, None, Option, sym, refl, ap, ◌∙◌, inl, inr, true≢false}
+use Rattle.std.specs.List.{list_any}
+use Rattle.std.proofs.Common.{◌≡◌, ℕ, Bool, true, false, cond, ◌||◌, List, [], ◌∷◌, Some, None, Option, sym, refl, ap, ◌∙◌, inl, inr}
 use mathlib.Core.Bool.{false≢true}
 use Rattle.rules.specs.Numbers.{maybe, any_below}
 use Rattle.rules.proofs.Tests.{bool_cases, not_both, bool_ext, or_true, or_right, and_true, eqb_self, some_none, same_value}
 use Rattle.rules.proofs.Below.{any_yes, any_find}
-use Rattle.keyed.specs.Keyed.{is_key, position, find, absent, distinct, all_under, any_taken}
-use Rattle.keyed.proofs.Positions.{position_split, position_behind}
+use Rattle.keyed.specs.Keyed.{is_key, find, absent, distinct, all_under}
 use Rattle.keyed.proofs.Finding.{is_key_true, is_key_of, absent_missing}
 use Rattle.keyed.proofs.Under.{find_under}
+
+-- one that is taken passes a test of its number and itself
+abbrev pub any_taken : {X : Type 0} → (X → Option ℕ) → (ℕ → X → Bool) → List X → Bool
+any_taken key q xs = list_any (λ x. maybe (key x) false (λ k. q k x)) xs
 
 -- a key passes
 abbrev pub passes : Option ℕ → (ℕ → Bool) → Bool
@@ -66,29 +70,3 @@ any_below_taken {X} key r n l z a u =
     go : (s : ℕ) (o : Option X) → find key l s ≡ o → r s (find key l s) ≡ true → any_taken key (λ s x. r s (Some x)) l ≡ true
     go s None e t = not_both (sym (ap (r s) e) ∙ t) (z s)
     go s (Some x) e t = any_taken_at key (λ s x. r s (Some x)) l s x e (sym (ap (r s) e) ∙ t)
-
--- one that is taken passes, or none does
-pub any_taken_true : {X : Type 0} (key : X → Option ℕ) (q : ℕ → X → Bool) (l : List X) (i : ℕ) → position (λ x. passes (key x) (λ k. q k x)) l ≡ Some i
-    → any_taken key q l ≡ true
-any_taken_true key q [] i e = some_none e refl
-any_taken_true key q (x ∷ xs) i e =
-    elim (position_split (λ x. passes (key x) (λ k. q k x)) x xs i e) [
-      | inl w ↦ ap (λ b. b || any_taken key q xs) w.0
-      | inr w ↦ or_right _ _ (any_taken_true key q xs w.1.0 w.1.2)
-    ]
-
-pub any_taken_false : {X : Type 0} (key : X → Option ℕ) (q : ℕ → X → Bool) (l : List X) → position (λ x. passes (key x) (λ k. q k x)) l ≡ None
-    → any_taken key q l ≡ false
-any_taken_false key q [] e = refl
-any_taken_false key q (x ∷ xs) e =
-    let w = position_behind (λ x. passes (key x) (λ k. q k x)) x xs e in
-    ap (λ b. b || any_taken key q xs) w.0 ∙ any_taken_false key q xs w.1
-
--- free and taken places, tested
-pub taken_free : (o : Option ℕ) → not (is_some o) ≡ true → passes o (λ k. true) ≡ false
-taken_free None e = refl
-taken_free (Some k) e = absurd (false≢true e)
-
-pub taken_held : (o : Option ℕ) → not (is_some o) ≡ false → passes o (λ k. true) ≡ true
-taken_held None e = absurd (true≢false e)
-taken_held (Some k) e = refl

@@ -1,5 +1,8 @@
 -- Lists of places, some of them taken under a number: their keys.
-use Rattle.std.specs.Prelude.{ℕ, suc, ◌+◌, Bool, true, false, cond, not, ◌&&◌, ◌||◌, List, [], ◌∷◌, is_some, Some, None, Option, nat_eq, nat_lt}
+use Rattle.std.specs.Prelude.{ℕ, ◌+◌, Bool, true, false, not, ◌&&◌, List, [], ◌∷◌, is_some, Option, nat_eq, nat_lt}
+use Rattle.std.specs.Option.{option_flatten, option_map, option_map_or}
+use Rattle.std.specs.List.{list_any, list_all}
+use Rattle.std.specs.List.{find as find_by}
 use Rattle.rules.specs.Numbers.{maybe, one_if}
 
 -- ── finding ──
@@ -8,25 +11,28 @@ use Rattle.rules.specs.Numbers.{maybe, one_if}
 abbrev pub is_key : Option ℕ → ℕ → Bool
 is_key o s = maybe o false (λ k. nat_eq s k)
 
--- the place of the first that passes
-abbrev pub position : {X : Type 0} → (X → Bool) → List X → Option ℕ
-position p [] = None
-position p (x ∷ xs) = cond (p x) (Some 0) (maybe (position p xs) None (λ k. Some (suc k)))
-
 -- what is taken under the number s
 abbrev pub find : {X : Type 0} → (X → Option ℕ) → List X → ℕ → Option X
-find key [] s = None
-find key (x ∷ xs) s = cond (is_key (key x) s) (Some x) (find key xs s)
-
--- one that is taken passes a test of its number and itself
-abbrev pub any_taken : {X : Type 0} → (X → Option ℕ) → (ℕ → X → Bool) → List X → Bool
-any_taken key q [] = false
-any_taken key q (x ∷ xs) = maybe (key x) false (λ k. q k x) || any_taken key q xs
+find key xs s = find_by (λ x. is_key (key x) s) xs
 
 -- how many are taken under a number that passes
 abbrev pub count_taken : {X : Type 0} → (X → Option ℕ) → (ℕ → Bool) → List X → ℕ
 count_taken key p [] = 0
 count_taken key p (x ∷ xs) = maybe (key x) 0 (λ k. one_if (p k)) + count_taken key p xs
+
+-- ── places that hold a value with a number ──
+
+-- the number of the value, if one is there
+abbrev pub key_of : {T : Type 0} → (T → ℕ) → Option T → Option ℕ
+key_of number x = option_map number x
+
+-- the value of the number s
+abbrev pub held : {T : Type 0} → (T → ℕ) → List (Option T) → ℕ → Option T
+held number xs s = option_flatten (find (key_of number) xs s)
+
+-- a value that is there passes
+abbrev pub any_held : {T : Type 0} → (T → Bool) → List (Option T) → Bool
+any_held p xs = list_any (λ x. option_map_or p x false) xs
 
 -- ── what an array of places keeps ──
 
@@ -45,10 +51,4 @@ under n o = maybe o true (λ k. nat_lt k n)
 
 -- each number is below n
 abbrev pub all_under : {X : Type 0} → (X → Option ℕ) → ℕ → List X → Bool
-all_under key n [] = true
-all_under key n (x ∷ xs) = under n (key x) && all_under key n xs
-
--- each passes
-abbrev pub every : {X : Type 0} → (X → Bool) → List X → Bool
-every p [] = true
-every p (x ∷ xs) = p x && every p xs
+all_under key n xs = list_all (λ x. under n (key x)) xs

@@ -1,60 +1,55 @@
-// Places that are free or taken under a number, and finding one in an array of them.
+// Places that are free or hold a value with a number, and finding one in an array of them.
 //
-// Job: the trait of such places, the first place under a number, the first free place, whether one is taken.
+// Job: the trait of such values; where a number stands, what stands under it, the first free place, whether one is taken.
 // May use: `rules`, for words of its definitions.
 // Main promise: each answer is the one that the list of the places tells.
 
 #![tactic(auto)]
 
-ghost use Rattle.std.specs.Prelude.{◌≡◌, ℕ, ◌<◌, true, not, length, is_some, Some, None, Option as Maybe};
-ghost use Rattle.keyed.specs.Keyed.{is_key, position, any_taken};
+ghost use Rattle.std.specs.Prelude.{◌≡◌, ℕ, ◌<◌, length, is_some, is_none, option_map, position, IfSome};
+ghost use Rattle.std.specs.List.{list_any};
+ghost use Rattle.keyed.specs.Keyed.{is_key, key_of, held};
 
-// A place that is free, or taken under a number.
-pub trait Keyed {
-    // the number, if the place is taken
-    ghost key: { Self → Maybe ℕ };
+// What has a number.
+pub trait Numbered {
+    ghost number: { Self → ℕ };
 
-    // Whether the place is taken under this number.
-    fn is_under(&self, k: usize) -> bool
-        ensures { result ≡ is_key (key self.now) k };
-
-    // Whether the place is free.
-    fn is_free(&self) -> bool
-        ensures { result ≡ not (is_some (key self.now)) };
+    fn number(&self) -> usize
+        ensures { result ≡ number self.now };
 }
 
-// Where the first place stands that is taken under this number.
-pub fn place<T: Keyed>(places: &[T], k: usize) -> Option<usize>
-    ensures { elim result [ Some i ↦ (i < length places.now) × (position (λ x. is_key (T.Keyed.key x) k) places.now ≡ Some i) | None ↦ position (λ x. is_key (T.Keyed.key x) k) places.now ≡ None ] }
+// Where the first value of this number stands.
+pub fn place<T: Numbered>(places: &[Option<T>], k: usize) -> Option<usize>
+    ensures is { result ≡ position (λ x. is_key (key_of T.number x) k) places.now }
+    ensures within { IfSome result (λ i. i < length places.now) }
 {
-    for (i, x) in places.iter().enumerate() {
-        if x.is_under(k) {
-            return Some(i);
-        }
-    }
-    None
+    places
+        .iter()
+        .position(|place| place.as_ref().is_some_and(|x| x.number() == k))
+}
+
+// The first value of this number, and where it stands.
+pub fn found<T: Numbered>(places: &[Option<T>], k: usize) -> Option<(usize, &T)>
+    ensures is { option_map (λ f. f.0) result ≡ position (λ x. is_key (key_of T.number x) k) places.now }
+    ensures value { option_map (λ f. f.1.now) result ≡ held T.number places.now k }
+    ensures within { IfSome result (λ f. f.0 < length places.now) }
+{
+    let i = place(places, k)?;
+    let value = places[i].as_ref()?;
+    Some((i, value))
 }
 
 // Where the first free place stands.
-pub fn vacancy<T: Keyed>(places: &[T]) -> Option<usize>
-    ensures { elim result [ Some i ↦ (i < length places.now) × (position (λ x. not (is_some (T.Keyed.key x))) places.now ≡ Some i) | None ↦ position (λ x. not (is_some (T.Keyed.key x))) places.now ≡ None ] }
+pub fn vacancy<T>(places: &[Option<T>]) -> Option<usize>
+    ensures is { result ≡ position is_none places.now }
+    ensures within { IfSome result (λ i. i < length places.now) }
 {
-    for (free, x) in places.iter().enumerate() {
-        if x.is_free() {
-            return Some(free);
-        }
-    }
-    None
+    places.iter().position(Option::is_none)
 }
 
 // Whether a place is taken.
-pub fn occupied<T: Keyed>(places: &[T]) -> bool
-    ensures { result ≡ any_taken T.Keyed.key (λ k x. true) places.now }
+pub fn occupied<T>(places: &[Option<T>]) -> bool
+    ensures { result ≡ list_any is_some places.now }
 {
-    for x in places {
-        if !x.is_free() {
-            return true;
-        }
-    }
-    false
+    places.iter().any(Option::is_some)
 }

@@ -2,3 +2,4 @@ pub mod Said
 pub mod Listing
 pub mod Faults
 pub mod Loaded
+pub mod Shown

@@ -7,10 +7,14 @@
 
 #![tactic(auto)]
 
+pub mod entries;
+pub mod entry;
 pub mod line;
 pub mod load;
 pub mod survey;
 
-pub use line::{Item, LineFault, parse_line};
+pub use entries::Items;
+pub use entry::Item;
+pub use line::{LineFault, parse_line};
 pub use load::{Catalogue, LoadFault, load_listing};
 pub use survey::{BadLine, Survey, survey_listing};

@@ -1,11 +1,14 @@
-ghost use Rattle.std.specs.Prelude.{◌≡◌, Ok, Err};
+ghost use Rattle.std.specs.Prelude.{◌≡◌, Some, Ok, Err};
 ghost use Rattle.std.specs.Option.{option_map};
-ghost use Rattle.tables.specs.Tables.{of};
+ghost use Rattle.tables.specs.Tables.{of, LawfulStamp};
 ghost use Rattle.listing.specs.Said.{said};
-ghost use Rattle.listing.specs.Listing.{listed_line};
+ghost use Rattle.listing.specs.Listing.{entry_of, listed_line};
+ghost use Rattle.listing.specs.Shown.{line_fault_shown};
+ghost use Rattle.listing.specs.declared.line.LineFault.TheVariants.{Refused};
 
-use tables::stamp::GREATEST_HAND;
-use tables::{LONGEST_TEXT, Refusal};
+use super::entry::Item;
+use std::fmt;
+use tables::{LONGEST_TEXT, Refusal, Stamp};
 use words::{cut_at, number};
 
 // Why a line is passed over.
@@ -17,6 +20,27 @@ pub enum LineFault {
     Refused(Refusal),
 }
 
+// A refusal passes a line over.
+impl From<Refusal> for LineFault {
+    ghost from_gives = { λ x y. y ≡ Refused x };
+
+    fn from(refusal: Refusal) -> LineFault {
+        LineFault::Refused(refusal)
+    }
+}
+
+// A fault is shown as what it finds in the line.
+impl fmt::Display for LineFault {
+    ghost output = { λ f. Some (line_fault_shown f) };
+
+    fn fmt<W: fmt::Write>(&self, f: &mut fmt::Formatter<W>) -> fmt::Result {
+        match self {
+            LineFault::Malformed => write!(f, "it is not: edition, hand, text"),
+            LineFault::Refused(refusal) => write!(f, "refusal {refusal}"),
+        }
+    }
+}
+
 // The two numbers and the text of a line, before they are judged.
 #[derive(Clone, Copy)]
 struct Fields<'a> {
@@ -25,32 +49,15 @@ struct Fields<'a> {
     text: &'a [u8],
 }
 
-// The entry that a good line says.
-#[derive(Clone, Copy)]
-pub struct Item<'a> {
-    pub edition: u32,
-    pub hand: u32,
-    pub text: &'a [u8],
-}
-
 // Takes a line apart at its first two spaces.
 fn split_fields(line: &[u8]) -> Option<Fields<'_>>
     ensures { option_map (λ x. of x.text.now x.edition x.hand) result ≡ said line.now }
 {
     let first = cut_at(line, b' ');
-    let Some(rest) = first.rest else {
-        return None;
-    };
-    let second = cut_at(rest, b' ');
-    let Some(text) = second.rest else {
-        return None;
-    };
-    let Some(edition) = number(first.front) else {
-        return None;
-    };
-    let Some(hand) = number(second.front) else {
-        return None;
-    };
+    let second = cut_at(first.rest?, b' ');
+    let text = second.rest?;
+    let edition = number(first.front)?;
+    let hand = number(second.front)?;
     Some(Fields {
         edition,
         hand,
@@ -58,22 +65,25 @@ fn split_fields(line: &[u8]) -> Option<Fields<'_>>
     })
 }
 
+// The stamp of two numbers, or refusal 24.
+fn judge_stamp(edition: u64, hand: u64) -> Result<Stamp, Refusal>
+    ensures { elim result [ Ok s ↦ (s.edition ≡ edition) × (s.hand ≡ hand) | Err f ↦ (f ≡ Refusal.BadStamp) × (LawfulStamp edition hand → ⊥) ] }
+{
+    match (u32::try_from(edition), u32::try_from(hand)) {
+        (Ok(edition), Ok(hand)) => Stamp::new(edition, hand),
+        _ => Err(Refusal::BadStamp),
+    }
+}
+
 // The entry of a line, or why there is none.
 pub fn parse_line(line: &[u8]) -> Result<Item<'_>, LineFault>
-    ensures { elim result [ Ok x ↦ listed_line line.now ≡ Ok (of x.text.now x.edition x.hand) | Err f ↦ listed_line line.now ≡ Err f ] }
+    ensures { elim result [ Ok x ↦ listed_line line.now ≡ Ok (entry_of x) | Err f ↦ listed_line line.now ≡ Err f ] }
 {
-    let Some(x) = split_fields(line) else {
-        return Err(LineFault::Malformed);
-    };
-    if x.text.len() > LONGEST_TEXT {
+    let fields = split_fields(line).ok_or(LineFault::Malformed)?;
+    let text = fields.text;
+    if text.len() > LONGEST_TEXT {
         return Err(LineFault::Refused(Refusal::LongText));
     }
-    if x.edition > x.hand || x.hand > GREATEST_HAND as u64 {
-        return Err(LineFault::Refused(Refusal::BadStamp));
-    }
-    Ok(Item {
-        edition: x.edition as u32,
-        hand: x.hand as u32,
-        text: x.text,
-    })
+    let stamp = judge_stamp(fields.edition, fields.hand)?;
+    Ok(Item { stamp, text })
 }

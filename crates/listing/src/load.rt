@@ -1,27 +1,16 @@
-ghost use Rattle.std.specs.Prelude.{◌≡◌, ◌<◌, length, Ok, Err, slice_set};
-ghost use Rattle.tables.specs.Tables.{of, LawfulEntry};
+ghost use Rattle.std.specs.Prelude.{◌≡◌, length, Some, Ok};
 ghost use Rattle.words.specs.Lines.{lines};
 ghost use Rattle.listing.specs.Listing.{listed};
 ghost use Rattle.listing.specs.Loaded.{Loaded};
+ghost use Rattle.listing.specs.Shown.{load_fault_shown};
 ghost use Rattle.listing.specs.declared.load.LoadFault.TheVariants.{Memory, Refused};
 
-use super::line::{Item, parse_line};
+use super::entries::Items;
 use super::survey::{BadLine, Survey, survey_listing};
 use pages::PageStore;
 use std::alloc::{AllocError, Global};
-use tables::{Refusal, Stamp, Store};
-use words::split_line;
-
-// Puts one entry into a store.
-fn put_item<S: Store>(to: &mut S, e: usize, item: &Item) -> Result<(), Refusal>
-    requires within { e < length (S.Readable.table to.old) }
-    requires lawful { LawfulEntry (of item.now.text.now item.now.edition item.now.hand) }
-    ensures done { result ≡ Ok tt }
-    ensures after { S.Readable.table to.new ≡ slice_set (S.Readable.table to.old) e (of item.now.text.now item.now.edition item.now.hand) }
-{
-    let stamp = Stamp::new(item.edition, item.hand)?;
-    to.put(e, item.text, stamp)
-}
+use std::fmt;
+use tables::{Refusal, Store};
 
 // Puts the entries of a listing into a store that has as many.
 fn fill<S: Store>(listing: &[u8], to: &mut S) -> Result<(), Refusal>
@@ -29,14 +18,8 @@ fn fill<S: Store>(listing: &[u8], to: &mut S) -> Result<(), Refusal>
     ensures done { result ≡ Ok tt }
     ensures after { S.Readable.table to.new ≡ listed (lines listing.now) }
 {
-    let mut text = listing;
-    let mut e: usize = 0;
-    while let Some(first) = split_line(text) {
-        if let Ok(item) = parse_line(first.line) {
-            put_item(to, e, &item)?;
-            e += 1;
-        }
-        text = first.rest;
+    for (e, item) in Items::new(listing).enumerate() {
+        to.put(e, item.text, item.stamp)?;
     }
     Ok(())
 }
@@ -61,7 +44,7 @@ pub enum LoadFault {
 impl From<AllocError> for LoadFault {
     ghost from_gives = { λ _ y. y ≡ Memory };
 
-    fn from(_e: AllocError) -> LoadFault {
+    fn from(_: AllocError) -> LoadFault {
         LoadFault::Memory
     }
 }
@@ -70,8 +53,20 @@ impl From<AllocError> for LoadFault {
 impl From<Refusal> for LoadFault {
     ghost from_gives = { λ x y. y ≡ Refused x };
 
-    fn from(f: Refusal) -> LoadFault {
-        LoadFault::Refused(f)
+    fn from(refusal: Refusal) -> LoadFault {
+        LoadFault::Refused(refusal)
+    }
+}
+
+// A fault is shown as what stands in the way.
+impl fmt::Display for LoadFault {
+    ghost output = { λ f. Some (load_fault_shown f) };
+
+    fn fmt<W: fmt::Write>(&self, f: &mut fmt::Formatter<W>) -> fmt::Result {
+        match self {
+            LoadFault::Memory => write!(f, "no memory"),
+            LoadFault::Refused(refusal) => write!(f, "refusal {refusal}"),
+        }
     }
 }
 
@@ -79,9 +74,8 @@ impl From<Refusal> for LoadFault {
 pub fn load_listing(heap: Global, listing: &[u8]) -> Result<Catalogue, LoadFault>
     ensures { Loaded (lines listing.now) result }
 {
-    let survey = survey_listing(heap, listing)?;
-    let mut store = PageStore::new(survey.entries)?;
+    let Survey { entries, bad } = survey_listing(heap, listing)?;
+    let mut store = PageStore::new(entries)?;
     fill(listing, &mut store)?;
-    let Survey { entries: _, bad } = survey;
     Ok(Catalogue { store, bad })
 }

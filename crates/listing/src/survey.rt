@@ -3,9 +3,10 @@ ghost use Rattle.words.specs.Lines.{lines};
 ghost use Rattle.listing.specs.Listing.{listed};
 ghost use Rattle.listing.specs.Faults.{bad_lines};
 
+use super::entries::Items;
 use super::line::{LineFault, parse_line};
 use std::alloc::{AllocError, Global};
-use words::split_line;
+use words::Lines;
 
 // A line that is passed over: its number, from 1 on, and its fault.
 #[derive(Clone, Copy)]
@@ -21,21 +22,24 @@ pub struct Survey {
     pub bad: Vec<BadLine>,
 }
 
+// Finds the lines of a listing that are passed over.
+fn find_bad_lines(heap: Global, listing: &[u8]) -> Result<Vec<BadLine>, AllocError>
+    ensures { IfOk result (λ v. v.items ≡ bad_lines 1 (lines listing.now)) }
+{
+    let mut bad = Vec::new(heap);
+    for (k, line) in Lines::new(listing).enumerate() {
+        if let Err(fault) = parse_line(line) {
+            bad.push(BadLine { line: k + 1, fault })?;
+        }
+    }
+    Ok(bad)
+}
+
 // Goes through a listing and counts its entries and its bad lines.
 pub fn survey_listing(heap: Global, listing: &[u8]) -> Result<Survey, AllocError>
     ensures { IfOk result (λ s. (s.entries ≡ length (listed (lines listing.now))) × (s.bad.items ≡ bad_lines 1 (lines listing.now))) }
 {
-    let mut text = listing;
-    let mut line = 0;
-    let mut entries = 0;
-    let mut bad = Vec::new(heap);
-    while let Some(first) = split_line(text) {
-        line += 1;
-        match parse_line(first.line) {
-            Ok(_) => entries += 1,
-            Err(fault) => bad.push(BadLine { line, fault })?,
-        }
-        text = first.rest;
-    }
+    let entries = Items::new(listing).count();
+    let bad = find_bad_lines(heap, listing)?;
     Ok(Survey { entries, bad })
 }

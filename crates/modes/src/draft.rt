@@ -6,7 +6,8 @@ ghost use Rattle.modes.specs.Checked.{checked};
 use super::modes::Modes;
 
 // The draft kind: a mode that reads, a mode that reads and keeps others from writing or reserving, and a
-// mode that writes.
+// mode that writes. A kind of its own beside the plain one: they differ in what conflicts, which is listed mode by
+// mode, and one formula over both would have to be decoded; what they have alike is three answers of a line.
 #[derive(Clone, Copy)]
 pub struct Draft;
 

@@ -1,8 +1,9 @@
 ghost use Rattle.std.specs.Prelude.{◌≡◌};
 ghost use Rattle.modes.specs.Kind.{Kind, Laws};
 
-// A kind of modes. Its modes have the codes from 0 up to, and without, `modes()`. It answers for every code;
-// what it answers for one that is no mode's has no meaning.
+// A kind of modes. Its modes have the codes from 0 up to, and without, `modes()`; by the rules a mode is its code,
+// so that it is a number here and no enum. It answers for every code; what it answers for one that is no mode's
+// has no meaning.
 pub trait Modes {
     // what it answers, once and for all
     ghost kind: { Kind };

@@ -4,6 +4,7 @@ pub mod Holders
 pub mod Shifts
 pub mod Rooms
 pub mod Cuts
+pub mod Pieces
 pub mod Starts
 pub mod Readings
 pub mod Puts

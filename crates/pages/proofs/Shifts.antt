@@ -6,9 +6,9 @@ use Rattle.pages.specs.declared.page.Page.{Page}
 use Rattle.pages.specs.declared.page.Chain.{Chain}
 use Rattle.pages.specs.declared.stock.Stock.{Stock}
 use Rattle.pages.specs.Blocks.{blocks}
-use Rattle.pages.specs.Chains.{no_page, page, linked, no_chain, size, chain, blocks_in, times, Whole, Once, Counted}
+use Rattle.pages.specs.Chains.{no_page, page, linked, no_chain, size, chain, blocks_in, times, Whole, Once, Counted, Small}
 use Rattle.pages.proofs.Totals.{total_move}
-use Rattle.pages.proofs.Frames.{linked_frame, bytes_frame}
+use Rattle.pages.proofs.Frames.{linked_frame, bytes_frame, blocks_length}
 use Rattle.pages.proofs.Holders.{first, tail, some, first_tail, first_in, off_tail, off_other}
 
 module _ (s : Stock) (a b : ℕ) (bs : List ℕ) (la : a ≤ s.count) (lb : b ≤ s.count) (apart : a ≡ b → ⊥) (held : 0 < length (blocks s a)) where
@@ -127,6 +127,19 @@ module _ (s : Stock) (a b : ℕ) (bs : List ℕ) (la : a ≤ s.count) (lb : b �
       total_move (size cs') (size cs) a b (suc n) (omega arith) (omega arith) apart (omega (arith, some s a la held)) (λ o l na nb. ap (λ c. c.pages) (at_other o na nb))
       ∙ s.counted
 
+  -- no entry has too many
+  small : (b < n → length (blocks s b) < 6) → Small cs' n
+  small room o l =
+      let sized = blocks_length ps cs b in
+      ⊎_elim
+      (λ e. omega (arith, ap (size cs') e, ap (λ c. c.pages) at_a, s.small a (omega arith)))
+      (λ na.
+      ⊎_elim
+      (λ e. omega (arith, ap (size cs') e, ap (λ c. c.pages) at_b, room (omega arith)))
+      (λ nb. omega (arith, ap (λ c. c.pages) (at_other o na nb), s.small o l))
+      (cases_eq o b))
+      (cases_eq o a)
+
   -- what the stock keeps
-  pub kept : length bs ≡ 16 → Whole ps' × Once ps' cs' n × Counted cs' n
-  kept long = (whole long, once, counted)
+  pub kept : length bs ≡ 16 → (b < n → length (blocks s b) < 6) → Whole ps' × Once ps' cs' n × Counted cs' n × Small cs' n
+  kept long room = (whole long, once, counted, small room)

@@ -5,7 +5,7 @@ use Rattle.std.proofs.lemmas.List.{get_or-set_same, get_or-set_other, get_or-rep
 use Rattle.std.proofs.lemmas.Bool.{cases_eq, eq-eqb, ne_eqb, lt-ltb, le-ltb, cond-true, cond-false}
 use Rattle.pages.specs.declared.page.Page.{Page}
 use Rattle.pages.specs.declared.page.Chain.{Chain}
-use Rattle.pages.specs.Chains.{page, fresh, linked, no_chain, size, chain, blocks_in, times, Once, Counted}
+use Rattle.pages.specs.Chains.{page, fresh, linked, no_chain, size, chain, blocks_in, times, Once, Counted, Small}
 use Rattle.pages.proofs.Totals.{total_none}
 
 -- a number below a is not counted from a on
@@ -84,3 +84,7 @@ module _ (ps : List Page) (n : ℕ) (all : (p : ℕ) → p < 768 → page ps p �
       let none = total_none (size (start n)) n (λ o l. ap (λ c. c.pages) (bare o l)) in
       let last : size (start n) n ≡ 6 * n = ap (λ c. c.pages) free in
       omega arith
+
+  -- and no entry has any
+  pub start_small : Small (start n) n
+  start_small o l = let none : size (start n) o ≡ 0 = ap (λ c. c.pages) (bare o l) in omega arith

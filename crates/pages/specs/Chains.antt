@@ -1,5 +1,5 @@
 -- Pages, and the chains that they are linked into.
-use Rattle.std.specs.Prelude.{◌≡◌, ℕ, zero, suc, ◌+◌, ◌*◌, ◌<◌, cond, List, [], ◌∷◌, map, length, get_or, replicate, ◌==◌, nat_lt, slice_index_or}
+use Rattle.std.specs.Prelude.{◌≡◌, ℕ, zero, suc, ◌+◌, ◌*◌, ◌<◌, ◌≤◌, cond, List, [], ◌∷◌, map, length, get_or, replicate, ◌==◌, nat_lt, slice_index_or}
 use Rattle.pages.specs.declared.page.Page.{Page}
 use Rattle.pages.specs.declared.page.Chain.{Chain}
 
@@ -57,3 +57,7 @@ Once ps cs n = (p : ℕ) → total (λ o. times p (chain ps cs o)) (suc n) ≡ c
 -- the chains 0 .. n have 6 × n pages together
 abbrev pub Counted : List Chain → ℕ → Type 0
 Counted cs n = total (size cs) (suc n) ≡ 6 * n
+
+-- no entry has more than 6 pages
+abbrev pub Small : List Chain → ℕ → Type 0
+Small cs n = (e : ℕ) → e < n → size cs e ≤ 6

@@ -19,4 +19,4 @@ entries s rs = map (entry_of s rs) (range_with_len 0 s.count)
 
 -- the table that a page store shows
 abbrev pub table_of : PageStore → Table
-table_of s = entries s.stock s.rows
+table_of s = entries s.stock s.rows.items

@@ -19,7 +19,8 @@ pub(crate) struct Page {
     pub(crate) next: usize,
 }
 
-// A chain: the number of its first page, and how many pages it has.
+// A chain: the number of its first page, and how many pages it has; the first means nothing where it has none. Pages are
+// named by number, as a store has no allocator for boxes.
 #[derive(Clone, Copy)]
 pub(crate) struct Chain {
     pub(crate) first: usize,

@@ -1,25 +1,25 @@
-ghost use Rattle.std.specs.Prelude.{◌≡◌, ◌*◌, ◌<◌, ◌≤◌, take};
+ghost use Rattle.std.specs.Prelude.{◌≡◌, ◌*◌, ◌<◌, length};
 ghost use Rattle.std.specs.List.{flat_map};
 ghost use Rattle.pages.specs.Chains.{size};
 ghost use Rattle.pages.specs.Blocks.{blocks};
 
-use super::page::PAGE;
 use super::stock::Stock;
+use arrayvec::ArrayVec;
 use tables::LONGEST_TEXT;
 
 impl Stock {
     // The blocks of entry `e`, one after another.
-    pub(crate) fn read(&self, e: usize) -> [u8; LONGEST_TEXT]
-        requires within { e < self.now.count }
-        requires small { size self.now.chains e ≤ 6 }
-        ensures { take (16 * size self.now.chains e) result ≡ flat_map (λ x. x) (blocks self.now e) }
+    pub(crate) fn read(&self, e: usize) -> ArrayVec<u8, LONGEST_TEXT>
+        requires { e < self.now.count }
+        ensures joined { result.items ≡ flat_map (λ x. x) (blocks self.now e) }
+        ensures long { length result.items ≡ 16 * size self.now.chains e }
     {
-        let chain = self.chains[e];
-        let mut text = [0; LONGEST_TEXT];
+        let chain = &self.chains[e];
+        let mut text = ArrayVec::new();
         let mut p = chain.first;
-        for i in 0..chain.pages {
-            let page = self.pages[p];
-            text[PAGE * i..PAGE * i + PAGE].copy_from_slice(&page.bytes);
+        for _ in 0..chain.pages {
+            let page = &self.pages[p];
+            let _fits = text.try_extend_from_slice(&page.bytes);
             p = page.next;
         }
         text

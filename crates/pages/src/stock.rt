@@ -1,10 +1,11 @@
 ghost use Rattle.std.specs.Prelude.{◌≡◌, ◌≤◌, length};
-ghost use Rattle.pages.specs.Chains.{Whole, Once, Counted};
+ghost use Rattle.pages.specs.Chains.{Whole, Once, Counted, Small};
 
 use super::page::{Chain, MOST_CHAINS, MOST_PAGES, Page};
 
 // The stock: 6 × `count` pages, and the chains that they stand in. The chain of an entry has the entry's
-// number; the chain of the free pages has the number `count`.
+// number; the chain of the free pages has the number `count`. Pages name one another by their numbers in one
+// array, as a store has no allocator.
 #[derive(Drop)]
 pub(crate) struct Stock {
     pub(crate) pages: [Page; MOST_PAGES],
@@ -18,4 +19,6 @@ pub(crate) struct Stock {
     ghost once: { Once pages chains count },
     // the chains have all the pages together
     ghost counted: { Counted chains count },
+    // no entry has more pages than the longest text needs
+    ghost small: { Small chains count },
 }

@@ -5,6 +5,7 @@ ghost use Rattle.pages.specs.Laws.{table_lawful};
 
 use super::stock::Stock;
 use super::store::{PageStore, Row};
+use arrayvec::ArrayVec;
 use tables::{LONGEST_TEXT, MOST_ENTRIES, Readable, Refusal, Stamp, Store, fill_front};
 
 impl PageStore {
@@ -15,16 +16,14 @@ impl PageStore {
         if n > MOST_ENTRIES {
             return Err(Refusal::CountHigh);
         }
-        let row = Row {
-            len: 0,
-            stamp: Stamp {
-                edition: 0,
-                hand: 0,
-            },
-        };
+        // these lines and no call that the slot store's slots share: it would be longer than they are
+        let mut rows = ArrayVec::new();
+        for _ in 0..n {
+            rows.push(Row::default());
+        }
         Ok(PageStore {
             stock: Stock::new(n),
-            rows: [row; MOST_ENTRIES],
+            rows,
         })
     }
 }
@@ -39,26 +38,19 @@ impl Readable for PageStore {
 
     // The number of entries.
     fn count(&self) -> usize {
-        self.stock.count
+        self.rows.len()
     }
 
     // The edition and the hand in the entry's row.
     fn stamp(&self, e: usize) -> Result<(u32, u32), Refusal> {
-        if e >= self.stock.count {
-            return Err(Refusal::NoEntry);
-        }
-        let stamp = self.rows[e].stamp;
-        Ok((stamp.edition, stamp.hand))
+        let row = self.rows.get(e).ok_or(Refusal::NoEntry)?;
+        Ok((row.stamp.edition, row.stamp.hand))
     }
 
     // The text in the entry's pages.
     fn text(&self, e: usize, buf: &mut [u8]) -> Result<usize, Refusal> {
-        if e >= self.stock.count {
-            return Err(Refusal::NoEntry);
-        }
-        let len = self.rows[e].len;
-        let blocks = self.stock.read(e);
-        fill_front(buf, &blocks[0..len])
+        let row = self.rows.get(e).ok_or(Refusal::NoEntry)?;
+        fill_front(buf, &self.stock.read(e)[..row.len])
     }
 }
 
@@ -66,14 +58,12 @@ impl Readable for PageStore {
 impl Store for PageStore {
     // Writes the text into pages, and its length and stamp into the entry's row.
     fn put(&mut self, e: usize, text: &[u8], stamp: Stamp) -> Result<(), Refusal> {
-        if e >= self.stock.count {
-            return Err(Refusal::NoEntry);
-        }
+        let row = self.rows.get_mut(e).ok_or(Refusal::NoEntry)?;
         if text.len() > LONGEST_TEXT {
             return Err(Refusal::LongText);
         }
         self.stock.replace(e, text);
-        self.rows[e] = Row {
+        *row = Row {
             len: text.len(),
             stamp,
         };

@@ -36,5 +36,5 @@ pub fn copy_entry<R: Readable, S: Store>(from: &R, to: &mut S, e: usize) -> Resu
     let stamp = Stamp::new(edition, hand)?;
     let mut text = [0; LONGEST_TEXT];
     let len = fetch_text(from, e, &mut text)?;
-    to.put(e, &text[0..len], stamp)
+    to.put(e, &text[..len], stamp)
 }

@@ -32,31 +32,35 @@ read_of room bs = then (field bs) (λ s. then (short_number s.1) (λ e. Some (re
 abbrev pub write_of : List ℕ → Option Call
 write_of bs = then (field bs) (λ s. then (field s.1) (λ e. Some (write s.0 e.0 e.1)))
 
--- the words that stand alone
-abbrev pub alone : List ℕ → Option Said
-alone w =
-    beside
-    w
-    ((codes "begin", Some (call begin))
+-- what the words that stand alone say, each beside its word
+abbrev pub lone_words : List (List ℕ × Option Said)
+lone_words =
+    (codes "begin", Some (call begin))
     ∷ (codes "open", Some (call open_round))
     ∷ (codes "drop", Some (call drop_round))
     ∷ (codes "next", Some next)
     ∷ (codes "image", Some image)
-    ∷ [])
+    ∷ []
 
--- the words that a space and the bytes bs follow
-abbrev pub followed : ℕ → List ℕ → List ℕ → Option Call
-followed room w bs =
-    beside
-    w
-    ((codes "claim", claim_of bs)
+-- what a word says that stands alone
+abbrev pub alone : List ℕ → Option Said
+alone w = beside w lone_words
+
+-- the calls of the words that a space and the bytes bs follow, each beside its word
+abbrev pub leading_words : ℕ → List ℕ → List (List ℕ × Option Call)
+leading_words room bs =
+    (codes "claim", claim_of bs)
     ∷ (codes "read", read_of room bs)
     ∷ (codes "write", write_of bs)
     ∷ (codes "commit", option_map commit (short_number bs))
     ∷ (codes "leave", option_map leave (short_number bs))
     ∷ (codes "copy", option_map copy (short_number bs))
     ∷ (codes "work", option_map work (short_number bs))
-    ∷ [])
+    ∷ []
+
+-- the call of a word that a space and the bytes bs follow
+abbrev pub followed : ℕ → List ℕ → List ℕ → Option Call
+followed room w bs = beside w (leading_words room bs)
 
 -- what a word and the bytes after its space, if it has one, say
 abbrev pub said_with : ℕ → List ℕ → Option (List ℕ) → Option Said

@@ -6,9 +6,13 @@ use Rattle.script.specs.declared.opening.KindName.{KindName}
 use Rattle.script.specs.declared.opening.KindName.TheVariants.{Plain, Draft}
 use Rattle.script.specs.declared.opening.Opening.{Opening}
 
+-- the kinds, each beside its word
+abbrev pub kinds : List (List ℕ × Option KindName)
+kinds = (codes "plain", Some Plain) ∷ (codes "draft", Some Draft) ∷ []
+
 -- the kind that a word names
 abbrev pub kind_of : List ℕ → Option KindName
-kind_of w = beside w ((codes "plain", Some Plain) ∷ (codes "draft", Some Draft) ∷ [])
+kind_of w = beside w kinds
 
 -- an opening has at most 128 entries
 abbrev pub opening : KindName → ℕ → Option Opening

@@ -9,13 +9,17 @@ use Rattle.rules.specs.Office.{Answer, refused, done, number, found, counts}
 abbrev pub with_line : {T E : Type 0} → Result T E → List ℕ → List ℕ → List ℕ
 with_line r bytes l = cond (is_ok r) (bytes ++ l) bytes
 
+-- a word, a space and a text
+abbrev pub shown_line : List ℕ → List ℕ → List ℕ
+shown_line word text = word ++ (codes " " ++ (text ++ codes "\n"))
+
 -- `no` and the refusal's number
 abbrev pub refused_line : Refusal → List ℕ
-refused_line f = codes "no " ++ (decimal (number_of f) ++ codes "\n")
+refused_line f = shown_line (codes "no") (decimal (number_of f))
 
 -- `ok` and a number
 abbrev pub number_line : ℕ → List ℕ
-number_line n = codes "ok " ++ (decimal n ++ codes "\n")
+number_line n = shown_line (codes "ok") (decimal n)
 
 -- a text, with what stands before it
 abbrev pub text_line : List ℕ → List ℕ → List ℕ
@@ -27,7 +31,7 @@ answer_line (refused f) = refused_line f
 answer_line done = codes "ok\n"
 answer_line (number n) = number_line n
 answer_line (found s) = text_line (codes "ok ") s
-answer_line (counts a b) = codes "ok " ++ (decimal a ++ (codes " " ++ (decimal b ++ codes "\n")))
+answer_line (counts a b) = shown_line (codes "ok") (decimal a ++ (codes " " ++ decimal b))
 
 -- `ok` and the next entry of the round or `none`, or the refusal
 abbrev pub next_line : Result (Option ℕ) Refusal → List ℕ

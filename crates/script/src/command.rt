@@ -3,7 +3,7 @@ ghost use Rattle.std.specs.Option.{option_map};
 ghost use Rattle.calls.specs.Calls.{asked};
 ghost use Rattle.script.specs.Commands.{meant, claim_of, read_of, write_of, alone, followed, said};
 
-use super::fields::{is_word, short_number, split_number};
+use super::fields::{short_number, split_number};
 use calls::Call;
 use words::cut_at;
 
@@ -22,12 +22,12 @@ pub enum Command<'a> {
 fn parse_claim(bytes: &[u8]) -> Option<Call<'_>>
     ensures { (room : ℕ) → option_map (λ c. asked c room) result ≡ claim_of bytes.now }
 {
-    let session = split_number(bytes)?;
-    let entry = split_number(session.rest)?;
-    let mode = short_number(entry.rest)?;
+    let (session, rest) = split_number(bytes)?;
+    let (entry, rest) = split_number(rest)?;
+    let mode = short_number(rest)?;
     Some(Call::Claim {
-        session: session.number,
-        entry: entry.number,
+        session,
+        entry,
         mode,
     })
 }
@@ -36,76 +36,54 @@ fn parse_claim(bytes: &[u8]) -> Option<Call<'_>>
 fn parse_read(bytes: &[u8]) -> Option<Call<'_>>
     ensures { (room : ℕ) → option_map (λ c. asked c room) result ≡ read_of room bytes.now }
 {
-    let session = split_number(bytes)?;
-    let entry = short_number(session.rest)?;
-    Some(Call::Read {
-        session: session.number,
-        entry,
-    })
+    let (session, rest) = split_number(bytes)?;
+    let entry = short_number(rest)?;
+    Some(Call::Read { session, entry })
 }
 
 // Reads what follows `write`.
 fn parse_write(bytes: &[u8]) -> Option<Call<'_>>
     ensures { (room : ℕ) → option_map (λ c. asked c room) result ≡ write_of bytes.now }
 {
-    let session = split_number(bytes)?;
-    let entry = split_number(session.rest)?;
+    let (session, rest) = split_number(bytes)?;
+    let (entry, text) = split_number(rest)?;
     Some(Call::Write {
-        session: session.number,
-        entry: entry.number,
-        text: entry.rest,
+        session,
+        entry,
+        text,
     })
 }
 
 // Reads a word that stands alone.
-fn parse_alone(word: &[u8]) -> Option<Command<'_>>
+#[tactic(auto, unfolding(crate::specs::Fields::is_word))]
+fn parse_alone<'a>(word: &str) -> Option<Command<'a>>
     ensures { (room : ℕ) → option_map (meant room) result ≡ alone word.now }
 {
-    if is_word(word, b"begin") {
-        Some(Command::Call(Call::Begin))
-    } else if is_word(word, b"open") {
-        Some(Command::Call(Call::Open))
-    } else if is_word(word, b"drop") {
-        Some(Command::Call(Call::Drop))
-    } else if is_word(word, b"next") {
-        Some(Command::Next)
-    } else if is_word(word, b"image") {
-        Some(Command::Image)
-    } else {
-        None
+    match word {
+        "begin" => Some(Command::Call(Call::Begin)),
+        "open" => Some(Command::Call(Call::Open)),
+        "drop" => Some(Command::Call(Call::Drop)),
+        "next" => Some(Command::Next),
+        "image" => Some(Command::Image),
+        _ => None,
     }
 }
 
 // Reads a word, and what follows it after a space.
-fn parse_followed<'a>(word: &[u8], bytes: &'a [u8]) -> Option<Call<'a>>
+#[tactic(auto, unfolding(crate::specs::Fields::is_word))]
+fn parse_followed<'a>(word: &str, bytes: &'a [u8]) -> Option<Call<'a>>
     ensures { (room : ℕ) → option_map (λ c. asked c room) result ≡ followed room word.now bytes.now }
 {
-    if is_word(word, b"claim") {
-        return parse_claim(bytes);
+    match word {
+        "claim" => parse_claim(bytes),
+        "read" => parse_read(bytes),
+        "write" => parse_write(bytes),
+        "commit" => short_number(bytes).map(|session| Call::Commit { session }),
+        "leave" => short_number(bytes).map(|session| Call::Leave { session }),
+        "copy" => short_number(bytes).map(|entry| Call::Copy { entry }),
+        "work" => short_number(bytes).map(|limit| Call::Work { limit }),
+        _ => None,
     }
-    if is_word(word, b"read") {
-        return parse_read(bytes);
-    }
-    if is_word(word, b"write") {
-        return parse_write(bytes);
-    }
-    if is_word(word, b"commit") {
-        let session = short_number(bytes)?;
-        return Some(Call::Commit { session });
-    }
-    if is_word(word, b"leave") {
-        let session = short_number(bytes)?;
-        return Some(Call::Leave { session });
-    }
-    if is_word(word, b"copy") {
-        let entry = short_number(bytes)?;
-        return Some(Call::Copy { entry });
-    }
-    if is_word(word, b"work") {
-        let limit = short_number(bytes)?;
-        return Some(Call::Work { limit });
-    }
-    None
 }
 
 // Reads a later line of a script; none where it is malformed.
@@ -113,11 +91,9 @@ pub fn parse_command(line: &[u8]) -> Option<Command<'_>>
     ensures { (room : ℕ) → option_map (meant room) result ≡ said room line.now }
 {
     let cut = cut_at(line, b' ');
+    let word = std::str::from_utf8(cut.front).ok()?;
     match cut.rest {
-        None => parse_alone(cut.front),
-        Some(bytes) => match parse_followed(cut.front, bytes) {
-            Some(call) => Some(Command::Call(call)),
-            None => None,
-        },
+        None => parse_alone(word),
+        Some(bytes) => parse_followed(word, bytes).map(Command::Call),
     }
 }

@@ -1,7 +1,7 @@
 ghost use Rattle.std.specs.Prelude.{◌≡◌};
 ghost use Rattle.script.specs.Openings.{kind_of, opening_of};
 
-use super::fields::{is_word, short_number};
+use super::fields::short_number;
 use tables::MOST_ENTRIES;
 use words::cut_at;
 
@@ -20,15 +20,14 @@ pub struct Opening {
 }
 
 // The kind that a word names.
-fn parse_kind(word: &[u8]) -> Option<KindName>
+#[tactic(auto, unfolding(crate::specs::Fields::is_word))]
+fn parse_kind(word: &str) -> Option<KindName>
     ensures { result ≡ kind_of word.now }
 {
-    if is_word(word, b"plain") {
-        Some(KindName::Plain)
-    } else if is_word(word, b"draft") {
-        Some(KindName::Draft)
-    } else {
-        None
+    match word {
+        "plain" => Some(KindName::Plain),
+        "draft" => Some(KindName::Draft),
+        _ => None,
     }
 }
 
@@ -38,7 +37,8 @@ pub fn parse_opening(line: &[u8]) -> Option<Opening>
 {
     let cut = cut_at(line, b' ');
     let rest = cut.rest?;
-    let kind = parse_kind(cut.front)?;
+    let word = std::str::from_utf8(cut.front).ok()?;
+    let kind = parse_kind(word)?;
     let entries = short_number(rest)?;
     if entries > MOST_ENTRIES {
         return None;

@@ -5,9 +5,9 @@ pub mod Places
 pub mod Begins
 pub mod Leaves
 pub mod Sound
-pub mod HoldPlaces
-pub mod WriteRules
-pub mod ReadRules
-pub mod ClaimRules
 pub mod RoundRules
+pub mod HoldPlaces
 pub mod CommitRules
+pub mod Modes
+pub mod WriteRules
+pub mod ClaimRules

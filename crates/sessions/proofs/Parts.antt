@@ -1,17 +1,20 @@
 -- What a session table keeps, as plain lists and numbers.
-use Rattle.std.proofs.Common.{◌≡◌, ℕ, ◌+◌, ◌≤◌, Bool, true, false, not, List, length, get_or, set, is_some, Some, None, sym, subst}
+use Rattle.std.specs.List.{list_all}
+use Rattle.keyed.proofs.Held.{held_at}
+use Rattle.std.proofs.Common.{◌≡◌, ℕ, ◌+◌, ◌≤◌, Bool, true, false, List, length, get_or, set, Some, None, sym, subst, position, Option, option_map, ◌∙◌, is_none}
 use Rattle.tables.specs.Tables.{Table}
 use Rattle.modes.specs.Kind.{Kind}
 use Rattle.rules.specs.Office.{Office, Call, Answer}
 use Rattle.rules.specs.Rules.{Step}
-use Rattle.keyed.specs.Keyed.{is_key, position, find, count_taken, distinct, all_under, every}
-use Rattle.sessions.specs.Sessions.{session_key, sound_session, no_session}
-use Rattle.sessions.specs.View.{found_session}
+use Rattle.keyed.specs.Keyed.{is_key, held, count_taken, distinct, all_under}
+use Rattle.rules.proofs.Tests.{same_value}
+use Rattle.sessions.specs.Sessions.{session_number, session_key, sound_place}
+use Rattle.sessions.specs.View.{session_of}
 use Rattle.sessions.specs.declared.session.Session.{Session}
 use Rattle.sessions.specs.declared.table.SessionTable.{SessionTable}
 
 pub record Parts : Type 0 where
-  pub sessions : List Session
+  pub sessions : List (Option Session)
   pub next : ℕ
   pub hand : ℕ
   pub round : Bool
@@ -34,7 +37,7 @@ seen d live image =
     record {
       live = live;
       image = image;
-      sessions = λ s. found_session (find session_key d.sessions s);
+      sessions = λ s. option_map session_of (held session_number d.sessions s);
       next_session = d.next;
       next_hand = d.hand;
       round = d.round;
@@ -48,7 +51,7 @@ pub record Kept (n : ℕ) (d : Parts) : Type 0 where
   pub few : n ≤ 128
   pub numbers : distinct session_key d.sessions ≡ true
   pub given : all_under session_key d.next d.sessions ≡ true
-  pub sound : every (sound_session n) d.sessions ≡ true
+  pub sound : list_all (sound_place n) d.sessions ≡ true
   pub last : d.next ≤ 4_000_000_001
   pub hands : d.hand + count_taken session_key (λ _. true) d.sessions ≤ d.next
 
@@ -78,7 +81,7 @@ pub ghosts : {n : ℕ} {d : Parts} → Kept n d
       few : n ≤ 128;
       numbers : distinct session_key d.sessions ≡ true;
       given : all_under session_key d.next d.sessions ≡ true;
-      sound : every (sound_session n) d.sessions ≡ true;
+      sound : list_all (sound_place n) d.sessions ≡ true;
       last : d.next ≤ 4_000_000_001;
       hands : d.hand + count_taken session_key (λ _. true) d.sessions ≤ d.next;
     }
@@ -95,33 +98,37 @@ ghosts k =
     }
 
 -- another session in place i
-abbrev pub with_place : Parts → ℕ → Session → Parts
+abbrev pub with_place : Parts → ℕ → Option Session → Parts
 with_place d i x = record { sessions = set d.sessions i x; next = d.next; hand = d.hand; round = d.round; copied = d.copied }
 
 -- the session x begun in place i
 abbrev pub begun : Parts → ℕ → Session → Parts
-begun d i x = record { sessions = set d.sessions i x; next = d.next + 1; hand = d.hand; round = d.round; copied = d.copied }
-
--- the session in place i
-abbrev pub session_in : Parts → ℕ → Session
-session_in d i = get_or d.sessions i no_session
+begun d i x = record { sessions = set d.sessions i (Some x); next = d.next + 1; hand = d.hand; round = d.round; copied = d.copied }
 
 -- place i is the first under the number s
 abbrev pub At : Parts → ℕ → ℕ → Type 0
 At d s i = position (λ x. is_key (session_key x) s) d.sessions ≡ Some i
 
--- no place is under the number s
-abbrev pub Nowhere : Parts → ℕ → Type 0
-Nowhere d s = position (λ x. is_key (session_key x) s) d.sessions ≡ None
+-- the session of number s is x
+abbrev pub Has : Parts → ℕ → Session → Type 0
+Has d s x = held session_number d.sessions s ≡ Some x
+
+-- that session stands in its place
+pub stands : (d : Parts) (s i : ℕ) (x : Session) → At d s i → Has d s x → get_or d.sessions i None ≡ Some x
+stands d s i x p h = sym (held_at session_number d.sessions s i None p) ∙ h
 
 -- place i is the first free one
 abbrev pub Free : Parts → ℕ → Type 0
-Free d i = position (λ x. not (is_some (session_key x))) d.sessions ≡ Some i
+Free d i = position is_none d.sessions ≡ Some i
 
--- a session that is given by an equation
-pub step_with : (K : Kind) (d : Parts) (c : Call) (a : Answer) (live image : Table) (i : ℕ) {x y : Session} → y ≡ x
+-- what stands in place i, as an equation gives it
+pub step_with : (K : Kind) (d : Parts) (c : Call) (a : Answer) (live image : Table) (i : ℕ) {x y : Option Session} → y ≡ x
     → Step K (seen d live image) c a (seen (with_place d i x) live image) → Step K (seen d live image) c a (seen (with_place d i y) live image)
 step_with K d c a live image i e h = subst (λ z. Step K (seen d live image) c a (seen (with_place d i z) live image)) (sym e) h
 
-pub kept_with : {n : ℕ} (d : Parts) (i : ℕ) {x y : Session} → y ≡ x → Kept n (with_place d i x) → Kept n (with_place d i y)
+pub kept_with : {n : ℕ} (d : Parts) (i : ℕ) {x y : Option Session} → y ≡ x → Kept n (with_place d i x) → Kept n (with_place d i y)
 kept_with {n} d i e h = subst (λ z. Kept n (with_place d i z)) (sym e) h
+
+-- what stands in its place is that session
+pub the_same : (d : Parts) (s i : ℕ) (x : Session) {y : Session} (o : Option Session) → At d s i → Has d s x → get_or d.sessions i o ≡ Some y → y ≡ x
+the_same d s i x o p h q = same_value (held_at session_number d.sessions s i o p ∙ q) h

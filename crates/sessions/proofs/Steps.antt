@@ -1,6 +1,6 @@
 -- The rule of a call from its tests, one by one.
-use Rattle.std.proofs.Common.{◌≡◌, ℕ, ◌<◌, ◌≤◌, Bool, true, false, cond, not, ltb, List, [], ◌∷◌, Some, None, Option, sym, refl, ap, ◌∙◌}
-use Rattle.std.proofs.lemmas.Bool.{lt-ltb, le-ltb}
+use Rattle.std.proofs.Common.{◌≡◌, ℕ, ◌<◌, Bool, true, false, cond, not, ltb, List, [], ◌∷◌, Some, None, Option, sym, refl, ap, ◌∙◌}
+use Rattle.std.proofs.lemmas.Bool.{lt-ltb}
 use Rattle.tables.specs.declared.refusal.Refusal.{Refusal}
 use Rattle.modes.specs.Kind.{Kind}
 use Rattle.rules.specs.Numbers.{first_of}
@@ -27,9 +27,6 @@ refusing K o c r e = sym (ap (decided K o c) (first_falls (declines K o c) (Some
 pub performing : (K : Kind) (o : Office) (c : Call) (a : Answer) (p : Office) → Falls (declines K o c) None → (a, p) ≡ perform K o c → Step K o c a p
 performing K o c a p e f = f ∙ sym (ap (decided K o c) (first_falls (declines K o c) None e))
 
--- the tests of a number's bound
+-- the test of a number's bound
 pub is_below : {a b : ℕ} → a < b → not (ltb a b) ≡ false
 is_below {a} {b} h = ap not (lt-ltb a b h)
-
-pub is_past : {a b : ℕ} → b ≤ a → not (ltb a b) ≡ true
-is_past {a} {b} h = ap not (le-ltb a b h)

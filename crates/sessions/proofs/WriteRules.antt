@@ -1,110 +1,123 @@
 -- Write.
-use Rattle.std.proofs.Common.{◌≡◌, ℕ, ◌<◌, ◌≤◌, true, false, cond, eqb, ◌++◌, length, get_or, drop, replicate, Some, sym, refl, ap, ◌∙◌, inl, inr, arith}
-use Rattle.std.proofs.lemmas.List.{length-set, length-append, length-drop, length-replicate, take_at}
-use Rattle.std.proofs.lemmas.Bool.{le-leb, lt-ltb, le-ltb, eq-eqb}
+use Rattle.std.proofs.Common.{◌≡◌, ℕ, ◌<◌, ◌≤◌, true, cond, eqb, length, get_or, Some, None, sym, ap, ◌∙◌, subst, inl, inr, Option, List, arith, option_map, position}
+use Rattle.std.specs.Borrow.{Bor}
+use Rattle.std.proofs.lemmas.List.{length-set}
+use Rattle.std.proofs.lemmas.Bool.{le-ltb, lt-ltb}
 use Rattle.tables.specs.Tables.{Table}
-use Rattle.tables.specs.declared.refusal.Refusal.TheVariants.{NoSession, NoEntry, NotWriting, LongText}
+use Rattle.tables.specs.Texts.{bytes_of}
+use Rattle.tables.specs.declared.text.Text.{Text}
 use Rattle.modes.specs.Kind.{Kind}
 use Rattle.rules.proofs.Tests.{same_cases}
 use Rattle.rules.specs.Numbers.{changed}
-use Rattle.rules.specs.Office.{Text, session, write, refused, done}
+use Rattle.rules.specs.Office.{session, write, done}
 use Rattle.rules.specs.Rules.{with_session, after_write, Step}
-use Rattle.keyed.proofs.Distinct.{distinct_changed}
 use Rattle.keyed.proofs.Every.{every_set}
-use Rattle.keyed.proofs.Finding.{and_both, position_key, find_place, find_changed}
-use Rattle.keyed.proofs.Under.{ltb_of, under_set}
-use Rattle.keyed.specs.Keyed.{find, under}
-use Rattle.sessions.specs.Sessions.{hold_key, session_key, fits, no_hold, written_hold, no_session, with_hold}
+use Rattle.keyed.proofs.Distinct.{distinct_changed}
+use Rattle.keyed.proofs.Held.{ap_cond, held_at, held_changed}
+use Rattle.keyed.specs.Keyed.{is_key, held, under}
+use Rattle.sessions.specs.Sessions.{hold_entry, hold_key, with_hold, written_hold}
 use Rattle.sessions.specs.View.{mode_of, text_of, session_of}
+use Rattle.sessions.specs.declared.hold.Hold.{Hold}
 use Rattle.sessions.specs.declared.session.Session.{Session}
+use Rattle.sessions.specs.declared.table.SessionTable.{SessionTable}
 use Rattle.sessions.proofs.Ext.{session_ext}
-use Rattle.sessions.proofs.HoldPlaces.{HeldAt, Unheld, holds_in, holds_none}
-use Rattle.sessions.proofs.Parts.{Parts, seen, Kept, kept, with_place, session_in, At, Nowhere}
-use Rattle.sessions.proofs.Places.{ap_cond, seen_changed, session_at, is_nowhere, is_at}
-use Rattle.sessions.proofs.Sound.{sound_in, changed_kept}
-use Rattle.sessions.proofs.Steps.{refusing, performing, is_below, is_past, hit, pass, over}
+use Rattle.sessions.proofs.HoldPlaces.{HeldIn}
+use Rattle.sessions.proofs.Modes.{entry_of, holds_in}
+use Rattle.sessions.proofs.Parts.{Parts, parts, seen, Kept, with_place, At, Has, kept}
+use Rattle.sessions.proofs.Places.{number_of_session, seen_changed, session_at, is_at}
+use Rattle.sessions.proofs.Sound.{sound_of, changed_kept}
+use Rattle.sessions.proofs.Steps.{performing, is_below, pass, over}
 
-module _ (K : Kind) (d : Parts) (live image : Table) (s e : ℕ) (t : Text) where
-  pub write_nowhere : Nowhere d s → Step K (seen d live image) (write s e t) (refused NoSession) (seen d live image)
-  write_nowhere p = refusing K (seen d live image) (write s e t) NoSession (hit (is_nowhere d live image s p))
+-- what is known of a write that nothing refuses: session x in place i has entry e, below n, in hold h in place k
+pub record Writing (n : ℕ) (d : Parts) (s e i k : ℕ) (x : Session) (h : Hold) : Type 0 where
+  pub within : i < length d.sessions
+  pub kept : Kept n d
+  pub named : At d s i
+  pub session : Has d s x
+  pub entry : e < n
+  pub place : HeldIn x.holds e k
+  pub hold : held hold_entry x.holds e ≡ Some h
 
-  pub write_past : (i : ℕ) → At d s i → length live ≤ e → Step K (seen d live image) (write s e t) (refused NoEntry) (seen d live image)
-  write_past i p h = refusing K (seen d live image) (write s e t) NoEntry (pass (is_at d live image s i p) (hit (is_past h)))
+-- the hold and the session after the write
+abbrev pub with_text : Hold → Text → Hold
+with_text h t = record { entry = h.entry; mode = h.mode; written = Some t }
 
-  pub write_unheld : (i : ℕ) → At d s i → e < length live → Unheld (session_in d i) e
-      → Step K (seen d live image) (write s e t) (refused NotWriting) (seen d live image)
-  write_unheld i p h q =
-      refusing K (seen d live image) (write s e t) NotWriting
-      (pass (is_at d live image s i p) (pass (is_below h) (hit (holds_none d live image s i e K.writes p q))))
-
-  pub write_mode : (i k : ℕ) → At d s i → e < length live → HeldAt (session_in d i) e k → K.writes (get_or (session_in d i).holds k no_hold).mode ≡ false
-      → Step K (seen d live image) (write s e t) (refused NotWriting) (seen d live image)
-  write_mode i k p h q w =
-      refusing K (seen d live image) (write s e t) NotWriting
-      (pass (is_at d live image s i p) (pass (is_below h) (hit (holds_in d live image s i e k K.writes p q w))))
-
-  pub write_long : (i k : ℕ) → At d s i → e < length live → HeldAt (session_in d i) e k → K.writes (get_or (session_in d i).holds k no_hold).mode ≡ true
-      → 96 < length t → Step K (seen d live image) (write s e t) (refused LongText) (seen d live image)
-  write_long i k p h q w l =
-      refusing K (seen d live image) (write s e t) LongText
-      (pass (is_at d live image s i p) (pass (is_below h) (pass (holds_in d live image s i e k K.writes p q w) (hit (lt-ltb 96 (length t) l)))))
-
--- the session after the write
-abbrev pub written_session : Session → ℕ → Text → Session
-written_session x k t = with_hold x k (written_hold (get_or x.holds k no_hold) t) x.side
+abbrev pub written : Session → ℕ → Hold → Text → Session
+written x k h t = with_hold x k (Some (with_text h t)) x.side
 
 -- the office after the write
-pub seen_written : (d : Parts) (live image : Table) (s i e k : ℕ) (t : Text) → At d s i → HeldAt (session_in d i) e k
-    → seen (with_place d i (written_session (session_in d i) k t)) live image ≡ after_write (seen d live image) s e t
-seen_written d live image s i e k t p q =
+seen_written : {n : ℕ} (d : Parts) (live image : Table) (s e i k : ℕ) (x : Session) (h : Hold) (t : Text) → Writing n d s e i k x h
+    → seen (with_place d i (Some (written x k h t))) live image ≡ after_write (seen d live image) s e (bytes_of t)
+seen_written d live image s e i k x h t a =
     let o = seen d live image in
-    let l = (session_in d i).holds in
-    let h = written_hold (get_or l k no_hold) t in
-    let z = session_at d live image s i p in
-    let ky : hold_key h ≡ Some e = position_key hold_key l e k no_hold q in
-    let f = find_changed hold_key l e k h ky q in
+    let l = x.holds in
+    let y = with_text h t in
+    let z = session_at d live image s x a.session in
+    let f = held_changed hold_entry l e k y (entry_of l e k h a.place a.hold) a.place in
     let same =
-    session_ext (session_of (written_session (session_in d i) k t)) (record { side = (session o s).side; mode = (session o s).mode; text = changed (session o s).text e (Some t) })
+    session_ext (session_of (written x k h t)) (record { side = (session o s).side; mode = (session o s).mode; text = changed (session o s).text e (Some (bytes_of t)) })
     (sym (ap (λ z. z.side) z))
     (λ j.
-    ap mode_of (f j) ∙ ap_cond mode_of (eqb j e) (Some h) (find hold_key l j)
+    ap mode_of (f j) ∙ ap_cond mode_of (eqb j e) (Some y) (held hold_entry l j)
     ∙ elim (same_cases j e) [
       | inl v ↦
-          ap (λ b. cond b (mode_of (Some h)) (mode_of (find hold_key l j))) v.0 ∙ sym (ap mode_of (find_place hold_key l e k no_hold q))
-          ∙ ap (λ j. mode_of (find hold_key l j)) (sym v.1) ∙ sym (ap (λ z. z.mode j) z)
-      | inr v ↦ ap (λ b. cond b (mode_of (Some h)) (mode_of (find hold_key l j))) v.0 ∙ sym (ap (λ z. z.mode j) z)
+          ap (λ b. cond b (mode_of (Some y)) (mode_of (held hold_entry l j))) v.0 ∙ sym (ap mode_of a.hold) ∙ ap (λ j. mode_of (held hold_entry l j)) (sym v.1)
+          ∙ sym (ap (λ z. z.mode j) z)
+      | inr v ↦ ap (λ b. cond b (mode_of (Some y)) (mode_of (held hold_entry l j))) v.0 ∙ sym (ap (λ z. z.mode j) z)
     ])
-    (λ j.
-    ap text_of (f j) ∙ ap_cond text_of (eqb j e) (Some h) (find hold_key l j)
-    ∙ ap (λ u. cond (eqb j e) (Some u) (text_of (find hold_key l j))) (take_at t (drop (length t) (replicate 96 0)) (length t) refl)
-    ∙ sym (ap (λ z. cond (eqb j e) (Some t) (z.text j)) z)) in
-    seen_changed d live image s i (written_session (session_in d i) k t) (position_key session_key d.sessions s i no_session p) p ∙ ap (λ x. with_session o s (Some x)) same
+    (λ j. ap text_of (f j) ∙ ap_cond text_of (eqb j e) (Some y) (held hold_entry l j) ∙ sym (ap (λ z. cond (eqb j e) (Some (bytes_of t)) (z.text j)) z)) in
+    seen_changed d live image s i (written x k h t) (number_of_session d s i x a.named a.session) a.named ∙ ap (λ q. with_session o s (Some q)) same
 
 -- the text is kept
-pub write_done : (K : Kind) (d : Parts) (live image : Table) (s e : ℕ) (t : Text) (i k : ℕ) → At d s i → e < length live → HeldAt (session_in d i) e k
-    → K.writes (get_or (session_in d i).holds k no_hold).mode ≡ true → length t ≤ 96
-    → Step K (seen d live image) (write s e t) done (seen (with_place d i (written_session (session_in d i) k t)) live image)
-write_done K d live image s e t i k p h q w l =
-    performing K (seen d live image) (write s e t) done (seen (with_place d i (written_session (session_in d i) k t)) live image)
-    (pass (is_at d live image s i p) (pass (is_below h) (pass (holds_in d live image s i e k K.writes p q w) (pass (le-ltb 96 (length t) l) over))))
-    (ap (λ o. (done, o)) (seen_written d live image s i e k t p q))
+pub write_done : (K : Kind) {d : Parts} (live image : Table) {s e i k : ℕ} {x : Session} {h : Hold} {u : List ℕ} (t : Text) → Writing (length live) d s e i k x h
+    → K.writes h.mode ≡ true → (length u ≤ 96) × (bytes_of t ≡ u)
+    → Step K (seen d live image) (write s e u) done (seen (with_place d i (Some (written x k h t))) live image)
+write_done K {d} live image {s} {e} {i} {k} {x} {h} t a w v =
+    let l : length (bytes_of t) ≤ 96 = omega (arith, v.0, ap length v.1) in
+    subst (λ u. Step K (seen d live image) (write s e u) done (seen (with_place d i (Some (written x k h t))) live image)) v.1
+    (performing K (seen d live image) (write s e (bytes_of t)) done (seen (with_place d i (Some (written x k h t))) live image)
+    (pass (is_at d live image s x a.session) (pass (is_below a.entry) (pass (holds_in d live image s e x h K.writes a.session a.hold w)
+    (pass (le-ltb 96 (length (bytes_of t)) l) over))))
+    (ap (λ o. (done, o)) (seen_written d live image s e i k x h t a)))
 
 -- a write keeps what the table keeps
-pub write_kept : {n : ℕ} (d : Parts) (s i e k : ℕ) (t : Text) → i < length d.sessions → k < 8 → Kept n d → At d s i → HeldAt (session_in d i) e k → e < n → length t ≤ 96
-    → Kept n (with_place d i (written_session (session_in d i) k t))
-write_kept {n} d s i e k t il kl kept p q h l =
-    let x = session_in d i in
-    let ls = x.holds in
-    let g = sound_in d i il kept in
-    let y = written_hold (get_or ls k no_hold) t in
-    let ky : hold_key y ≡ Some e = position_key hold_key ls e k no_hold q in
-    let long : length (t ++ drop (length t) (replicate 96 0)) ≡ 96 =
-    omega (arith, length-append t (drop (length t) (replicate 96 0)), length-drop {A = ℕ} (length t) (replicate 96 0), length-replicate {A = ℕ} 96 0) in
-    changed_kept d s i (written_session x k t) il kept p (position_key session_key d.sessions s i no_session p)
+pub write_kept : {n : ℕ} {d : Parts} {s e i k : ℕ} {x : Session} {h : Hold} (t : Text) → Writing n d s e i k x h → Kept n (with_place d i (Some (written x k h t)))
+write_kept {n} {d} {s} {e} {i} {k} {x} {h} t a =
+    let l = x.holds in
+    let g = sound_of d s x a.kept a.session in
+    let y = with_text h t in
+    let ky : hold_key (Some y) ≡ Some e = ap Some (entry_of l e k h a.place a.hold) in
+    changed_kept d s i (written x k h t) a.within a.kept a.named (number_of_session d s i x a.named a.session)
     (record {
-      eight = length-set ls k y ∙ g.eight;
-      entries = distinct_changed hold_key ls e k y ky q g.entries;
-      below = under_set hold_key n ls k y (ap (under n) ky ∙ ltb_of h) g.below;
-      fitting =
-          every_set fits ls k y (and_both (le-leb (length t) 96 l) (eq-eqb (length (t ++ drop (length t) (replicate 96 0))) 96 long)) g.fitting;
+      eight = length-set l k (Some y) ∙ g.eight;
+      entries = distinct_changed hold_key l e k (Some y) ky a.place g.entries;
+      below = every_set (λ x. under n (hold_key x)) l k (Some y) (ap (under n) ky ∙ lt-ltb e n a.entry) g.below;
     })
+
+-- the session that the code leaves in place i, where it was x
+pub written_as : {n : ℕ} {d : Parts} {s e i k : ℕ} {x : Session} {h : Hold} (t : Text) {y z : Session} → Writing n d s e i k x h → y ≡ x
+    → z ≡ with_hold y k (written_hold (get_or y.holds k None) t) y.side → Some z ≡ Some (written x k h t)
+written_as {e = e} {k = k} {x = x} t a q r =
+    ap Some
+    (r ∙ ap (λ y. with_hold y k (written_hold (get_or y.holds k None) t) y.side) q
+    ∙ ap (λ o. with_hold x k (written_hold o t) x.side) (sym (held_at hold_entry x.holds e k None a.place) ∙ a.hold))
+
+-- from the checks of a write
+pub writing : (t : SessionTable) (s e i k : ℕ) (x : Session) {r : Option (ℕ × Bor Hold)} (h : Bor Hold) → (i < length t.sessions) × At (parts t) s i × Has (parts t) s x
+    → e < t.entries → option_map (λ f. f.0) r ≡ position (λ x. is_key (hold_key x) e) x.holds → option_map (λ f. f.1.now) r ≡ held hold_entry x.holds e
+    → r ≡ Some (k, h) → Writing t.entries (parts t) s e i k x h.now
+writing t s e i k x h p m q v r =
+    record {
+      within = p.0;
+      kept = kept t;
+      named = p.1;
+      session = p.2;
+      entry = m;
+      place = sym q ∙ ap (option_map (λ f. f.0)) r;
+      hold = sym v ∙ ap (option_map (λ f. f.1.now)) r;
+    }
+
+-- what is known, for a live table of the count
+pub writing_for : {n : ℕ} {d : Parts} {s e i k : ℕ} {x : Session} {h : Hold} (live : Table) → length live ≡ n → Writing n d s e i k x h
+    → Writing (length live) d s e i k x h
+writing_for {n} {d} {s} {e} {i} {k} {x} {h} live q a = subst (λ n. Writing n d s e i k x h) (sym q) a

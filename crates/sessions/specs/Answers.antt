@@ -1,15 +1,26 @@
 -- What the answers of the calls say.
-use Rattle.std.specs.Prelude.{◌≡◌, ℕ, cond, List, [], ◌∷◌, length, take, drop, Some, None, Ok, Err, Option, Result, nat_lt, slice_set}
+use Rattle.std.specs.Prelude.{◌≡◌, ℕ, ◌<◌, cond, position, List, [], ◌∷◌, length, take, drop, Some, None, Ok, Err, Option, Result, nat_lt, slice_set}
 use Rattle.std.specs.Option.{unwrap_or}
 use Rattle.tables.specs.Tables.{Table, entry}
 use Rattle.tables.specs.declared.refusal.Refusal.{Refusal}
-use Rattle.tables.specs.declared.refusal.Refusal.TheVariants.{ShortBuffer, NumbersSpent, CountHigh}
+use Rattle.tables.specs.declared.refusal.Refusal.TheVariants.{NoSession, ShortBuffer, NumbersSpent, CountHigh}
+use Rattle.std.specs.Borrow.{Bor}
 use Rattle.rules.specs.Numbers.{first_of}
 use Rattle.rules.specs.Office.{Text, Answer, refused, done, number, found}
+use Rattle.keyed.specs.Keyed.{is_key, held}
+use Rattle.sessions.specs.Sessions.{session_key, session_number}
+use Rattle.sessions.specs.declared.session.Session.{Session}
+use Rattle.sessions.specs.declared.table.SessionTable.{SessionTable}
 
 -- why there is no session table of this many entries with these first numbers
 abbrev pub new_refusal : ℕ → ℕ → Option Refusal
 new_refusal entries first = first_of ((nat_lt 4_000_000_001 first, NumbersSpent) ∷ (nat_lt 128 entries, CountHigh) ∷ [])
+
+-- the session of number s and its place, or refusal 1
+abbrev pub SessionIs : SessionTable → ℕ → Result (ℕ × Bor Session) Refusal → Type 0
+SessionIs t s (Ok f) =
+    (f.0 < length t.sessions) × (position (λ x. is_key (session_key x) s) t.sessions ≡ Some f.0) × (held session_number t.sessions s ≡ Some f.1.now)
+SessionIs t s (Err f) = (f ≡ NoSession) × (held session_number t.sessions s ≡ None)
 
 -- done, or a refusal
 abbrev pub did : Result (Unit {0}) Refusal → Answer

@@ -1,13 +1,13 @@
-ghost use Rattle.std.specs.Prelude.{◌≡◌, Some, None, Ok, Err};
+ghost use Rattle.std.specs.Prelude.{◌≡◌, Ok, Err, None, Some};
 ghost use Rattle.tables.specs.Tables.{Table};
-ghost use Rattle.modes.specs.Kind.{Kind};
 ghost use Rattle.rules.specs.Office.{begin as to_begin, leave as to_leave};
-ghost use Rattle.sessions.specs.View.{view, ByRule, empty_office};
-ghost use Rattle.sessions.specs.Answers.{new_refusal, did, numbered};
+ghost use Rattle.sessions.specs.View.{view, ByRules, empty_office};
+ghost use Rattle.sessions.specs.Answers.{SessionIs, new_refusal, did, numbered};
 
+use super::free::free_places;
 use super::session::Session;
-use super::table::{MOST_SESSIONS, SessionTable};
-use keyed::{place, vacancy};
+use super::table::SessionTable;
+use keyed::{found, vacancy};
 use tables::{MOST_ENTRIES, Refusal};
 
 // The greatest number that a session has.
@@ -19,6 +19,7 @@ impl SessionTable {
     pub fn new(entries: usize, first: u32) -> Result<SessionTable, Refusal>
         ensures { elim result [ Ok t ↦ (new_refusal entries first ≡ None) × (t.entries ≡ entries) × ((live image : Table) → view t live image ≡ empty_office first live image) | Err f ↦ new_refusal entries first ≡ Some f ] }
     {
+        // `as`, since usize has no From<u32>
         if first as usize > LAST_NUMBER + 1 {
             return Err(Refusal::NumbersSpent);
         }
@@ -26,7 +27,7 @@ impl SessionTable {
             return Err(Refusal::CountHigh);
         }
         Ok(SessionTable {
-            sessions: [Session::free(); MOST_SESSIONS],
+            sessions: free_places(),
             entries,
             next_session: first as usize,
             next_hand: first,
@@ -35,32 +36,33 @@ impl SessionTable {
         })
     }
 
+    // The session of this number, and its place; refusal 1.
+    pub(crate) fn session(&self, s: usize) -> Result<(usize, &Session), Refusal>
+        ensures { SessionIs self.now s result }
+    {
+        found(&self.sessions, s).ok_or(Refusal::NoSession)
+    }
+
     // Begins a session, and answers its number; refusals 12 and 13.
     pub fn begin(&mut self) -> Result<usize, Refusal>
-        ensures rule { (K : Kind) → ByRule K self.old to_begin (numbered result) self.new }
-        ensures same { self.new.entries ≡ self.old.entries }
+        ensures { ByRules self.old to_begin (numbered result) self.new }
     {
-        let Some(i) = vacancy(&self.sessions) else {
-            return Err(Refusal::SessionsFull);
-        };
+        let i = vacancy(&self.sessions).ok_or(Refusal::SessionsFull)?;
         let number = self.next_session;
         if number > LAST_NUMBER {
             return Err(Refusal::NumbersSpent);
         }
-        self.sessions[i] = Session::begun(number);
+        self.sessions[i] = Some(Session::begun(number));
         self.next_session += 1;
         Ok(number)
     }
 
     // Ends a session without a commit; refusal 1.
     pub fn leave(&mut self, s: usize) -> Result<(), Refusal>
-        ensures rule { (K : Kind) → ByRule K self.old (to_leave s) (did result) self.new }
-        ensures same { self.new.entries ≡ self.old.entries }
+        ensures { ByRules self.old (to_leave s) (did result) self.new }
     {
-        let Some(i) = place(&self.sessions, s) else {
-            return Err(Refusal::NoSession);
-        };
-        self.sessions[i].end();
+        let (i, _) = self.session(s)?;
+        self.sessions[i] = None;
         Ok(())
     }
 }

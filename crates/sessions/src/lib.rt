@@ -10,13 +10,13 @@
 pub mod calls;
 pub mod claims;
 pub mod commits;
+mod free;
 pub mod hold;
 pub mod questions;
 pub mod rounds;
 pub mod session;
 pub mod table;
 pub mod texts;
-pub mod verdict;
 
 pub use hold::Hold;
 pub use table::SessionTable;

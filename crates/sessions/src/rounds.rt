@@ -1,53 +1,41 @@
-ghost use Rattle.std.specs.Prelude.{◌≡◌, ◌<◌, map, length, Some, None, Ok, Err, slice_set};
+ghost use Rattle.std.specs.Prelude.{◌≡◌, ◌<◌, map, length, option_map, IfSome, Ok, Err, slice_set};
 ghost use Rattle.tables.specs.Tables.{Table, entry};
 ghost use Rattle.modes.specs.Kind.{Kind};
 ghost use Rattle.rules.specs.Numbers.{maybe, lowest};
 ghost use Rattle.rules.specs.Office.{open_round as to_open, drop_round as to_drop, copy as to_copy, uncopied};
 ghost use Rattle.rules.specs.Rules.{Step, next_answer, next_of, after_copy};
-ghost use Rattle.keyed.specs.Keyed.{any_taken};
-ghost use Rattle.sessions.specs.Sessions.{session_key, at_open, without_side};
-ghost use Rattle.sessions.specs.View.{view, ByRule, holds_entry, copyable};
+ghost use Rattle.keyed.specs.Keyed.{any_held};
+ghost use Rattle.sessions.specs.Sessions.{holds_entry, with_new_side};
+ghost use Rattle.sessions.specs.View.{view, WithTables, Follows, ByRules, copyable};
 ghost use Rattle.sessions.specs.Answers.{did, copied_image};
 
 use super::session::Session;
 use super::table::SessionTable;
 use tables::{MOST_ENTRIES, Refusal};
 
-// Gives each session its side when a round opens.
-fn take_sides(sessions: &mut [Session])
-    ensures { sessions.new ≡ map at_open sessions.old }
+// Gives each session the side that it has as a round opens, or as one ends.
+fn renew_sides(sessions: &mut [Option<Session>], round: bool)
+    ensures { sessions.new ≡ map (option_map (with_new_side round)) sessions.old }
 {
-    for session in sessions.iter_mut() {
-        session.take_side();
-    }
-}
-
-// Takes each session's side from it.
-fn leave_sides(sessions: &mut [Session])
-    ensures { sessions.new ≡ map without_side sessions.old }
-{
-    for session in sessions.iter_mut() {
-        session.leave_side();
+    // not `flatten`: of what is written through it a proof knows nothing
+    for place in sessions.iter_mut() {
+        if let Some(session) = place {
+            session.renew_side(round);
+        }
     }
 }
 
 // Whether one of the sessions holds the entry.
-fn is_held(sessions: &[Session], e: usize) -> bool
-    ensures { result ≡ any_taken session_key (holds_entry e) sessions.now }
+fn is_held(sessions: &[Option<Session>], e: usize) -> bool
+    ensures { result ≡ any_held (holds_entry e) sessions.now }
 {
-    for session in sessions {
-        if session.holds_entry(e) {
-            return true;
-        }
-    }
-    false
+    sessions.iter().any(|place| place.as_ref().is_some_and(|session| session.holds_entry(e)))
 }
 
 impl SessionTable {
     // Opens a round into an image of this many entries; refusals 14 and 15.
     pub fn open_round(&mut self, image_entries: usize) -> Result<(), Refusal>
-        ensures rule { (K : Kind) (live image : Table) → length live ≡ self.old.entries → length image ≡ image_entries → Step K (view self.old live image) to_open (did result) (view self.new live image) }
-        ensures same { self.new.entries ≡ self.old.entries }
+        ensures { Follows self.old self.new (λ live image. length image ≡ image_entries → (K : Kind) → Step K (view self.old live image) to_open (did result) (view self.new live image)) }
     {
         if self.round {
             return Err(Refusal::RoundOpen);
@@ -55,7 +43,7 @@ impl SessionTable {
         if image_entries != self.entries {
             return Err(Refusal::CountsDiffer);
         }
-        take_sides(&mut self.sessions);
+        renew_sides(&mut self.sessions, true);
         self.round = true;
         self.copied = [false; MOST_ENTRIES];
         Ok(())
@@ -63,22 +51,20 @@ impl SessionTable {
 
     // Ends the round, with the image left as it is; refusal 16.
     pub fn drop_round(&mut self) -> Result<(), Refusal>
-        ensures rule { (K : Kind) → ByRule K self.old to_drop (did result) self.new }
-        ensures same { self.new.entries ≡ self.old.entries }
+        ensures { ByRules self.old to_drop (did result) self.new }
     {
         if !self.round {
             return Err(Refusal::NoRound);
         }
-        leave_sides(&mut self.sessions);
+        renew_sides(&mut self.sessions, false);
         self.round = false;
         Ok(())
     }
 
     // Marks an entry as copied; refusals 2, 16, 17 and 18.
     pub fn mark_copied(&mut self, e: usize) -> Result<(), Refusal>
-        ensures rule { (K : Kind) (live image : Table) → length live ≡ self.old.entries → Step K (view self.old live image) (to_copy e) (did result) (view self.new live (copied_image result e live image)) }
+        ensures rule { Follows self.old self.new (λ live image. (K : Kind) → Step K (view self.old live image) (to_copy e) (did result) (view self.new live (copied_image result e live image))) }
         ensures within { elim result [ Ok u ↦ e < self.old.entries | Err f ↦ Unit {0} ] }
-        ensures same { self.new.entries ≡ self.old.entries }
     {
         if e >= self.entries {
             return Err(Refusal::NoEntry);
@@ -107,19 +93,14 @@ impl SessionTable {
     // The lowest entry that is uncopied and that no session holds.
     fn next_entry(&self) -> Option<usize>
         ensures is { result ≡ lowest self.now.entries (copyable self.now) }
-        ensures within { elim result [ Some e ↦ e < self.now.entries | None ↦ Unit {0} ] }
+        ensures within { IfSome result (λ e. e < self.now.entries) }
     {
-        for e in 0..self.entries {
-            if self.is_copyable(e) {
-                return Some(e);
-            }
-        }
-        None
+        (0..self.entries).find(|e| self.is_copyable(*e))
     }
 
     // The entry that is to be copied next, if any; refusal 16.
     pub fn next(&self) -> Result<Option<usize>, Refusal>
-        ensures { (live image : Table) → length live ≡ self.now.entries → result ≡ next_answer (view self.now live image) }
+        ensures { WithTables self.now (λ live image. result ≡ next_answer (view self.now live image)) }
     {
         if !self.round {
             return Err(Refusal::NoRound);
@@ -129,28 +110,22 @@ impl SessionTable {
 
     // Marks the entry that is to be copied next, and answers it; for the copies of a work.
     pub fn mark_next(&mut self) -> Option<usize>
-        ensures next { (live image : Table) → length live ≡ self.old.entries → result ≡ next_of (view self.old live image) }
-        ensures mark { (live image : Table) → length live ≡ self.old.entries → view self.new live (maybe result image (λ e. slice_set image e (entry live e))) ≡ maybe result (view self.old live image) (after_copy (view self.old live image)) }
-        ensures within { elim result [ Some e ↦ e < self.old.entries | None ↦ Unit {0} ] }
-        ensures same { self.new.entries ≡ self.old.entries }
+        ensures next { WithTables self.old (λ live image. result ≡ next_of (view self.old live image)) }
+        ensures mark { Follows self.old self.new (λ live image. view self.new live (maybe result image (λ e. slice_set image e (entry live e))) ≡ maybe result (view self.old live image) (after_copy (view self.old live image))) }
+        ensures within { IfSome result (λ e. e < self.old.entries) }
     {
-        let Some(next) = self.next_entry() else {
-            return None;
-        };
+        let next = self.next_entry()?;
         self.copied[next] = true;
         Some(next)
     }
 
     // How many entries are uncopied.
     pub fn left(&self) -> usize
-        ensures { (live image : Table) → length live ≡ self.now.entries → result ≡ uncopied (view self.now live image) }
+        ensures { WithTables self.now (λ live image. result ≡ uncopied (view self.now live image)) }
     {
-        let mut count = 0;
-        for e in 0..self.entries {
-            if !self.copied[e] {
-                count += 1;
-            }
-        }
-        count
+        self.copied[..self.entries]
+            .iter()
+            .filter(|copied| !**copied)
+            .count()
     }
 }

@@ -1,11 +1,15 @@
-ghost use Rattle.std.specs.Prelude.{◌≡◌, ◌<◌, ◌≤◌, false, length, Some, None, slice_index_or};
-ghost use Rattle.rules.specs.Numbers.{maybe};
-ghost use Rattle.keyed.specs.Keyed.{find};
-ghost use Rattle.sessions.specs.Sessions.{session_key, hold_key, no_hold, free_session, begun_session, ended_session, hold_place, granted_hold, written_hold, with_hold, at_open, without_side};
-ghost use Rattle.sessions.specs.View.{mode_of, holds_entry};
+ghost use Rattle.std.specs.Prelude.{◌≡◌, ◌<◌, length, is_some, IfSome, slice_index_or, None, Some};
+ghost use Rattle.std.specs.List.{list_any};
+ghost use Rattle.keyed.specs.Keyed.{held, any_held};
+ghost use Rattle.rules.specs.Rules.{wanted as wants};
+ghost use Rattle.sessions.specs.Sessions.{session_number, hold_entry, is_written, begun_session, hold_place, granted_hold, written_hold, with_hold, holds_entry, with_new_side, side_then};
+ghost use Rattle.sessions.specs.View.{mode_of, holds_in};
 
+use super::free::free_places;
 use super::hold::Hold;
-use keyed::{Keyed, occupied, place, vacancy};
+use keyed::{Numbered, found, occupied, place, vacancy};
+use modes::Modes;
+use tables::{Refusal, Text};
 
 // The most entries that a session holds.
 const MOST_HOLDS: usize = 8;
@@ -13,139 +17,129 @@ const MOST_HOLDS: usize = 8;
 // The side of a session in a round.
 #[derive(Clone, Copy)]
 pub(crate) enum Side {
-    Neither,
     Before,
     After,
 }
 
-// A place for a session: free, or with a live session of a number, its side and its holds.
-#[derive(Clone, Copy)]
+// A session: its number, its side in the round, if it has one, and its holds.
+#[derive(Drop)]
 pub(crate) struct Session {
-    pub(crate) live: bool,
     pub(crate) number: usize,
-    pub(crate) side: Side,
-    pub(crate) holds: [Hold; MOST_HOLDS],
+    pub(crate) side: Option<Side>,
+    pub(crate) holds: [Option<Hold>; MOST_HOLDS],
 }
 
-// A live session is taken under its number.
-impl Keyed for Session {
-    // the number of the session
-    ghost key = { session_key };
+impl Numbered for Session {
+    ghost number = { session_number };
 
-    // Whether the session of this number is here.
-    fn is_under(&self, k: usize) -> bool {
-        self.live && k == self.number
-    }
-
-    // Whether no session is here.
-    fn is_free(&self) -> bool {
-        !self.live
+    fn number(&self) -> usize {
+        self.number
     }
 }
 
 impl Session {
-    // A place without a session.
-    pub(crate) fn free() -> Session
-        ensures { result ≡ free_session }
-    {
-        Session {
-            live: false,
-            number: 0,
-            side: Side::Neither,
-            holds: [Hold::blank(); MOST_HOLDS],
-        }
-    }
-
     // A session that has just begun.
     pub(crate) fn begun(number: usize) -> Session
         ensures { result ≡ begun_session number }
     {
         Session {
-            live: true,
             number,
-            side: Side::Neither,
-            holds: [Hold::blank(); MOST_HOLDS],
+            side: None,
+            holds: free_places(),
         }
-    }
-
-    // Ends the session.
-    pub(crate) fn end(&mut self)
-        ensures { self.new ≡ ended_session self.old }
-    {
-        self.live = false;
     }
 
     // The mode that it holds the entry in.
     pub(crate) fn mode_of(&self, e: usize) -> Option<u8>
-        ensures { result ≡ mode_of (find hold_key self.now.holds e) }
+        ensures { result ≡ mode_of (held hold_entry self.now.holds e) }
     {
-        match place(&self.holds, e) {
-            Some(k) => Some(self.holds[k].mode),
-            None => None,
-        }
+        found(&self.holds, e).map(|(_, hold)| hold.mode)
+    }
+
+    // Whether it holds the entry in a mode that conflicts with the wanted one.
+    pub(crate) fn conflicts<K: Modes>(&self, kinds: &K, e: usize, wanted: u8) -> bool
+        ensures { result ≡ holds_in (K.Modes.kind.conflict wanted) e self.now }
+    {
+        self.mode_of(e)
+            .is_some_and(|held| kinds.conflict(wanted, held))
+    }
+
+    // Whether it holds the entry.
+    pub(crate) fn holds_entry(&self, e: usize) -> bool
+        ensures { result ≡ holds_entry e self.now }
+    {
+        found(&self.holds, e).is_some()
     }
 
     // Where its hold of the entry stands, or else can stand.
     pub(crate) fn hold_place(&self, e: usize) -> Option<usize>
-        ensures { elim result [ Some k ↦ (k < 8) × (hold_place self.now.holds e ≡ Some k) | None ↦ hold_place self.now.holds e ≡ None ] }
+        ensures is { result ≡ hold_place self.now.holds e }
+        ensures within { IfSome result (λ k. k < length self.now.holds) }
     {
-        match place(&self.holds, e) {
-            Some(k) => Some(k),
-            None => vacancy(&self.holds),
+        place(&self.holds, e).or_else(|| vacancy(&self.holds))
+    }
+
+    // The mode that its claim of the entry wants: the mode claimed, joined with the mode held.
+    pub(crate) fn wanted<K: Modes>(&self, kinds: &K, e: usize, m: u8) -> u8
+        ensures { result ≡ wants K.Modes.kind m (mode_of (held hold_entry self.now.holds e)) }
+    {
+        self.mode_of(e).map_or(m, |held| kinds.join(m, held))
+    }
+
+    // The side that its claim of an entry, copied or not, gives it; without a round it keeps its side. Refusals 6 and 7.
+    pub(crate) fn side_then(&self, round: bool, copied: bool) -> Result<Option<Side>, Refusal>
+        ensures { result ≡ side_then round self.now.side copied }
+    {
+        if !round {
+            return Ok(self.side);
+        }
+        match (self.side, copied) {
+            (None, true) => Ok(Some(Side::After)),
+            (None, false) => Ok(Some(Side::Before)),
+            (Some(Side::Before), true) => Err(Refusal::Ended),
+            (Some(Side::Before), false) => Ok(Some(Side::Before)),
+            (Some(Side::After), true) => Ok(Some(Side::After)),
+            (Some(Side::After), false) => Err(Refusal::Paused),
         }
     }
 
     // Holds the entry in the mode, in hold k, which is its own or a free one, and takes the side. A text that
     // it wrote to the entry stays.
-    pub(crate) fn grant(&mut self, k: usize, e: usize, mode: u8, side: Side)
+    pub(crate) fn grant(&mut self, k: usize, e: usize, mode: u8, side: Option<Side>)
         requires { k < 8 }
-        ensures { self.new ≡ with_hold self.old k (granted_hold (slice_index_or self.old.holds k no_hold) e mode) side }
+        ensures { self.new ≡ with_hold self.old k (granted_hold (slice_index_or self.old.holds k None) e mode) side }
     {
-        let mut hold = self.holds[k];
-        hold.wrote = hold.is_under(e) && hold.wrote;
-        hold.taken = true;
-        hold.entry = e;
-        hold.mode = mode;
-        self.holds[k] = hold;
+        let own = self.holds[k].take().filter(|hold| hold.entry == e);
+        self.holds[k] = Some(Hold {
+            entry: e,
+            mode,
+            written: own.and_then(|hold| hold.written),
+        });
         self.side = side;
     }
 
     // Keeps a text with hold k.
-    pub(crate) fn keep(&mut self, k: usize, text: &[u8])
-        requires { (k < 8) × (length text.now ≤ 96) }
-        ensures { self.new ≡ with_hold self.old k (written_hold (slice_index_or self.old.holds k no_hold) text.now) self.old.side }
+    pub(crate) fn keep(&mut self, k: usize, text: Text)
+        requires { k < 8 }
+        ensures { self.new ≡ with_hold self.old k (written_hold (slice_index_or self.old.holds k None) text) self.old.side }
     {
-        self.holds[k] = self.holds[k].written(text);
-    }
-
-    // Whether a session is here that holds the entry.
-    pub(crate) fn holds_entry(&self, e: usize) -> bool
-        ensures { result ≡ maybe (session_key self.now) false (λ k. holds_entry e k self.now) }
-    {
-        if self.is_free() {
-            return false;
-        }
-        match self.mode_of(e) {
-            Some(_) => true,
-            None => false,
+        if let Some(hold) = &mut self.holds[k] {
+            hold.written = Some(text);
         }
     }
 
-    // Takes the side that it has when a round opens.
-    pub(crate) fn take_side(&mut self)
-        ensures { self.new ≡ at_open self.old }
+    // Whether it wrote to one of its entries.
+    pub(crate) fn has_written(&self) -> bool
+        ensures { result ≡ any_held is_written self.now.holds }
     {
-        self.side = if occupied(&self.holds) {
-            Side::Before
-        } else {
-            Side::Neither
-        };
+        self.holds.iter().any(|place| place.as_ref().is_some_and(|hold| hold.written.is_some()))
     }
 
-    // Leaves its side.
-    pub(crate) fn leave_side(&mut self)
-        ensures { self.new ≡ without_side self.old }
+    // Takes the side that it has as a round opens, which is Before if it holds an entry, or as one ends, which is none. One
+    // formula over the round's state: two calls would be twins.
+    pub(crate) fn renew_side(&mut self, round: bool)
+        ensures { self.new ≡ with_new_side round self.old }
     {
-        self.side = Side::Neither;
+        self.side = (round && occupied(&self.holds)).then_some(Side::Before);
     }
 }

@@ -1,7 +1,7 @@
 // The slot store: one place of 96 bytes for each entry.
 //
-// Job: a store of at most 128 entries in one fixed array, with no allocator.
-// May use: `tables`.
+// Job: a store of at most 128 entries that lie in the store itself, with no allocator.
+// May use: `tables`, and arrayvec for the entries' places.
 // Main promise: the store reads and writes as the traits `Readable` and `Store` say of its table, and a new
 // store has blank entries.
 

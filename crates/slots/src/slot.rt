@@ -1,22 +1,19 @@
-ghost use Rattle.std.specs.Prelude.{◌≡◌, ◌≤◌, length};
+ghost use Rattle.std.specs.Prelude.{◌≤◌, length};
 
-use tables::{LONGEST_TEXT, MOST_ENTRIES, Stamp};
+use arrayvec::ArrayVec;
+use tables::{MOST_ENTRIES, Stamp, Text};
 
-// The place of one entry: its text stands in the first `len` bytes.
-#[derive(Clone, Copy)]
+// The place of one entry: its text and its stamp.
+#[derive(Default, Drop)]
 pub(crate) struct Slot {
-    pub(crate) text: [u8; LONGEST_TEXT],
-    pub(crate) len: usize,
+    pub(crate) text: Text,
     pub(crate) stamp: Stamp,
-    // the text is within the slot's bytes
-    ghost fits: { (len ≤ 96) × (length text ≡ 96) },
 }
 
-// A store whose entries stand in its first `count` slots.
+// A store with a slot for each of its entries, which lie in the store itself.
 #[derive(Drop)]
 pub struct SlotStore {
-    pub(crate) slots: [Slot; MOST_ENTRIES],
-    pub(crate) count: usize,
-    // the entries are within the store's slots
-    ghost fits: { (count ≤ 128) × (length slots ≡ 128) },
+    pub(crate) slots: ArrayVec<Slot, MOST_ENTRIES>,
+    // there are no more entries than a store may have
+    ghost few: { length slots.items ≤ 128 },
 }

@@ -1,27 +1,11 @@
-ghost use Rattle.std.specs.Prelude.{◌≡◌, ◌<◌, ◌≤◌, length, replicate, Ok, Err};
-ghost use Rattle.tables.specs.Tables.{blank, of};
-ghost use Rattle.slots.specs.Meaning.{entry_of, table_of};
+ghost use Rattle.std.specs.Prelude.{◌≡◌, ◌<◌, ◌≤◌, replicate, Ok, Err};
+ghost use Rattle.tables.specs.Tables.{blank};
+ghost use Rattle.slots.specs.Meaning.{table_of};
 ghost use Rattle.slots.specs.Laws.{table_lawful};
 
 use super::slot::{Slot, SlotStore};
-use tables::{LONGEST_TEXT, MOST_ENTRIES, Readable, Refusal, Stamp, Store, fill_front};
-
-impl Slot {
-    // The slot of a text and a stamp; refusal 11 where the text is longer than the slot.
-    fn new(text: &[u8], stamp: Stamp) -> Result<Slot, Refusal>
-        ensures { elim result [ Ok s ↦ (length text.now ≤ 96) × (entry_of s ≡ of text.now stamp.edition stamp.hand) | Err f ↦ (f ≡ Refusal.LongText) × (96 < length text.now) ] }
-    {
-        let mut bytes = [0; LONGEST_TEXT];
-        match fill_front(&mut bytes, text) {
-            Ok(len) => Ok(Slot {
-                text: bytes,
-                len,
-                stamp,
-            }),
-            Err(_) => Err(Refusal::LongText),
-        }
-    }
-}
+use arrayvec::ArrayVec;
+use tables::{MOST_ENTRIES, Readable, Refusal, Stamp, Store, Text, fill_front};
 
 impl SlotStore {
     // A store of `n` blank entries; refusal 22 where that is more than a store has.
@@ -31,18 +15,12 @@ impl SlotStore {
         if n > MOST_ENTRIES {
             return Err(Refusal::CountHigh);
         }
-        let unwritten = Slot {
-            text: [0; LONGEST_TEXT],
-            len: 0,
-            stamp: Stamp {
-                edition: 0,
-                hand: 0,
-            },
-        };
-        Ok(SlotStore {
-            slots: [unwritten; MOST_ENTRIES],
-            count: n,
-        })
+        // these lines and no call that the page store's rows share: it would be longer than they are
+        let mut slots = ArrayVec::new();
+        for _ in 0..n {
+            slots.push(Slot::default());
+        }
+        Ok(SlotStore { slots })
     }
 }
 
@@ -56,25 +34,19 @@ impl Readable for SlotStore {
 
     // The number of entries.
     fn count(&self) -> usize {
-        self.count
+        self.slots.len()
     }
 
     // The edition and the hand in the entry's slot.
     fn stamp(&self, e: usize) -> Result<(u32, u32), Refusal> {
-        if e >= self.count {
-            return Err(Refusal::NoEntry);
-        }
-        let stamp = self.slots[e].stamp;
-        Ok((stamp.edition, stamp.hand))
+        let slot = self.slots.get(e).ok_or(Refusal::NoEntry)?;
+        Ok((slot.stamp.edition, slot.stamp.hand))
     }
 
     // The text in the entry's slot.
     fn text(&self, e: usize, buf: &mut [u8]) -> Result<usize, Refusal> {
-        if e >= self.count {
-            return Err(Refusal::NoEntry);
-        }
-        let slot = &self.slots[e];
-        fill_front(buf, &slot.text[0..slot.len])
+        let slot = self.slots.get(e).ok_or(Refusal::NoEntry)?;
+        fill_front(buf, slot.text.as_bytes())
     }
 }
 
@@ -82,10 +54,11 @@ impl Readable for SlotStore {
 impl Store for SlotStore {
     // Replaces the entry's slot.
     fn put(&mut self, e: usize, text: &[u8], stamp: Stamp) -> Result<(), Refusal> {
-        if e >= self.count {
-            return Err(Refusal::NoEntry);
-        }
-        self.slots[e] = Slot::new(text, stamp)?;
+        let slot = self.slots.get_mut(e).ok_or(Refusal::NoEntry)?;
+        *slot = Slot {
+            text: Text::try_from(text)?,
+            stamp,
+        };
         Ok(())
     }
 }

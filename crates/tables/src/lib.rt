@@ -1,8 +1,8 @@
 // What a table is, and what may be asked of one.
 //
-// Job: the one refusal type, stamps, the trait of tables that can be read, the trait of stores that can
+// Job: the one refusal type, stamps, texts, the trait of tables that can be read, the trait of stores that can
 // also be written, and the filling of a caller's buffer.
-// May use: std alone. Every other crate uses this one.
+// May use: std, and arrayvec for texts. Every crate that speaks of tables uses this one.
 // Main promise: whatever implements the traits answers as its table says, and refuses only where, and by the
 // number that, the rules name.
 
@@ -19,9 +19,11 @@ pub mod readable;
 pub mod refusal;
 pub mod stamp;
 pub mod store;
+pub mod text;
 
 pub use buffer::fill_front;
 pub use readable::Readable;
 pub use refusal::Refusal;
 pub use stamp::Stamp;
 pub use store::Store;
+pub use text::Text;

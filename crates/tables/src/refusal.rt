@@ -1,5 +1,7 @@
-ghost use Rattle.std.specs.Prelude.{◌≡◌};
+ghost use Rattle.std.specs.Prelude.{◌≡◌, Some, decimal};
 ghost use Rattle.tables.specs.Refusals.{number_of};
+
+use std::fmt;
 
 // Why a call is refused. Each case has its number; where two fit a call, the lower one is given.
 #[derive(Clone, Copy, PartialEq, Eq, Debug)]
@@ -69,10 +71,21 @@ pub enum Refusal {
 }
 
 impl Refusal {
-    // The number by which the refusal is known.
+    // The number by which the refusal is known. A method and no `From<Refusal> for u8`: a call then says what it asks.
     pub fn number(&self) -> u8
         ensures { result ≡ number_of self.now }
     {
+        // `as`, which is how the number of an enum is read
         *self as u8
+    }
+}
+
+// A refusal is shown as its number.
+impl fmt::Display for Refusal {
+    // the digits of its number
+    ghost output = { λ f. Some (decimal (number_of f)) };
+
+    fn fmt<W: fmt::Write>(&self, f: &mut fmt::Formatter<W>) -> fmt::Result {
+        write!(f, "{}", self.number())
     }
 }

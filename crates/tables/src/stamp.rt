@@ -27,3 +27,15 @@ impl Stamp {
         }
     }
 }
+
+// The stamp of an entry that nobody has written. By hand, as no derive gives a struct with a ghost field.
+impl Default for Stamp {
+    ghost is_default = { λ s. (s.edition ≡ 0) × (s.hand ≡ 0) };
+
+    fn default() -> Stamp {
+        Stamp {
+            edition: 0,
+            hand: 0,
+        }
+    }
+}

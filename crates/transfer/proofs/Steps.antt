@@ -1,7 +1,6 @@
 -- What each step of a transfer leaves for the next.
-use Rattle.std.proofs.Common.{◌≡◌, ℕ, ◌+◌, ◌-◌, ◌*◌, ◌≤◌, List, ◌++◌, length, take, drop, Ok, Err, sym, refl, ap, ◌∙◌, ⊎_elim, arith}
-use native.Mathlib.Nat.{sub-zero}
-use Rattle.std.proofs.lemmas.List.{take_at, length-append}
+use Rattle.std.proofs.Common.{◌≡◌, ℕ, ◌+◌, ◌*◌, ◌≤◌, List, ◌++◌, length, take, drop, Ok, Err, sym, refl, ap, ◌∙◌, ⊎_elim, arith}
+use Rattle.std.proofs.lemmas.List.{take_at}
 use Rattle.std.proofs.lemmas.Bool.{cases_lt}
 use Rattle.tables.specs.Tables.{Table, Lawful, entry}
 use Rattle.tables.specs.declared.refusal.Refusal.TheVariants.{CountsDiffer}
@@ -17,7 +16,7 @@ use Rattle.transfer.specs.Transferred.{Transferred}
 use Rattle.transfer.specs.declared.fault.TransferFault.TheVariants.{Restore}
 
 -- two tables that are equal compare the same
-pub compared_same : (t u : Table) (c : Comparison) → t ≡ u → Compared t u c → c ≡ Same
+compared_same : (t u : Table) (c : Comparison) → t ≡ u → Compared t u c → c ≡ Same
 compared_same t u Same e h = refl
 compared_same t u CountsApart e h = absurd (h (ap length e))
 compared_same t u (Entry k) e h = absurd (h.3 (ap (λ x. entry x k) e))
@@ -27,38 +26,35 @@ module _ (t : Table) (file file' : List ℕ) (len : ℕ) (wrote : WriteAnswer t 
   pub wide : 4 + 110 * length t ≤ length file
   wide =
       ⊎_elim
-      (λ short. let r = (wrote.1 short).0 in let z : ◌≡◌ {A = ℕ} 0 1 = cc in absurd (omega arith))
+      (λ short. let r = (wrote.1 short).0 in absurd (cc))
       (λ w. w)
       (cases_lt (length file) (4 + 110 * length t))
 
-  pub length_is : len ≡ length (written t)
+  length_is : len ≡ length (written t)
   length_is = let r = (wrote.0 wide).0 in cc
 
   pub stands : file' ≡ written t ++ drop (length (written t)) file
   stands = (wrote.0 wide).1
 
   -- the front of the buffer is the file
-  pub front : take (len - 0) file' ≡ written t
-  front = ap (λ n. take n file') (sub-zero len) ∙ ap (take len) stands ∙ take_at (written t) _ len (sym length_is)
-
-  pub within : len ≤ length file'
-  within = let l = ap length stands ∙ length-append (written t) (drop (length (written t)) file) in let k = length_is in omega arith
+  pub front : take len file' ≡ written t
+  front = ap (take len) stands ∙ take_at (written t) _ len (sym length_is)
 
   -- s and s' are the store's table before and after the restore from the front of the buffer
   module _ (s s' : Table) (lawful : Lawful t) where
     -- the restore was refused, so the counts differ
-    pub transfer_refused : (x : RestoreFault) → Outcome (take (len - 0) file') s (Err x) s' → Transferred t file s (Err (Restore x)) file' s'
+    pub transfer_refused : (x : RestoreFault) → Outcome (take len file') s (Err x) s' → Transferred t file s (Err (Restore x)) file' s'
     transfer_refused x o = (
       (λ short. let w = wide in absurd (omega arith)),
       (λ w differ. let r = o.1 t lawful front differ in (ap (λ e. Err (Restore e)) (let same : x ≡ OfTable CountsDiffer = (let q = r.0 in cc) in same), stands, r.1)),
-      (λ w equal. let r = (o.0 t lawful front equal).0 in let z : ◌≡◌ {A = ℕ} 0 1 = cc in absurd (omega arith)),
+      (λ w equal. let r = (o.0 t lawful front equal).0 in absurd (cc)),
     )
 
     -- the restore was done, so the counts are equal
-    pub transfer_done : (n : ℕ) (c : Comparison) → Outcome (take (len - 0) file') s (Ok tt) s' → n ≡ length t → Compared t s' c → Transferred t file s (Ok (record { file_length = len; entries = n; compared = c })) file' s'
+    pub transfer_done : (n : ℕ) (c : Comparison) → Outcome (take len file') s (Ok tt) s' → n ≡ length t → Compared t s' c → Transferred t file s (Ok (record { file_length = len; entries = n; compared = c })) file' s'
     transfer_done n c o counted compared = (
       (λ short. let w = wide in absurd (omega arith)),
-      (λ w differ. let r = (o.1 t lawful front differ).0 in let z : ◌≡◌ {A = ℕ} 0 1 = cc in absurd (omega arith)),
+      (λ w differ. let r = (o.1 t lawful front differ).0 in absurd (cc)),
       (λ w equal.
           let r = o.0 t lawful front equal in
           let same = compared_same t s' c (sym r.1) compared in

@@ -5,7 +5,7 @@ use imagerestore::RestoreFault;
 use tables::Refusal;
 
 // Why a transfer ends early: the file was not written, or not restored.
-#[derive(Clone, Copy)]
+#[derive(Clone, Copy, PartialEq, Eq, Debug)]
 pub enum TransferFault {
     Write(Refusal),
     Restore(RestoreFault),

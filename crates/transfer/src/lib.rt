@@ -23,7 +23,7 @@ pub use fault::TransferFault;
 
 // The figures of a transfer: the length of the file, the entries that its reader shows, and how the source and
 // the store compare afterwards.
-#[derive(Clone, Copy)]
+#[derive(Clone, Copy, PartialEq, Eq, Debug)]
 pub struct Transfer {
     pub file_length: usize,
     pub entries: usize,
@@ -39,7 +39,7 @@ pub fn transfer_table<R: Readable, S: Store>(
     ensures { Transferred (R.Readable.table from.now) file.old (S.Readable.table to.old) result file.new (S.Readable.table to.new) }
 {
     let file_length = write_table(from, file)?;
-    let bytes = &file[0..file_length];
+    let bytes = &file[..file_length];
     restore_file(bytes, to)?;
     Ok(Transfer {
         file_length,

@@ -10,6 +10,7 @@ ghost use Rattle.std.specs.Prelude.{◌≡◌, length};
 ghost use Rattle.vectors.specs.Vectors.{vectors, EveryHolds};
 
 // The number of cases; each of them holds.
+#[tactic(auto, using(crate::proofs::Cases::all_hold))]
 pub fn vectors_hold() -> usize
     ensures count { result ≡ length vectors }
     ensures hold { EveryHolds vectors }

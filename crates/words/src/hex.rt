@@ -2,16 +2,14 @@ ghost use Rattle.std.specs.Prelude.{◌≡◌, ℕ, ◌+◌, ◌*◌, ◌<◌, �
 ghost use Rattle.std.specs.Char.{digit_value};
 ghost use Rattle.words.specs.Hex.{Hex};
 
-// The hexadecimal digit that a byte writes.
-fn hex_digit(byte: u8) -> Option<u8>
-    ensures { elim result [ Some d ↦ (d < 16) × (d ≡ digit_value byte) | None ↦ 16 ≤ digit_value byte ] }
+// The value of a hexadecimal digit. It asks for one, as the calls below do, and has no type for them: all digits of a text
+// are tested before the first is read.
+fn hex_digit(byte: u8) -> u8
+    requires { digit_value byte < 16 }
+    ensures { result ≡ digit_value byte }
 {
-    match byte {
-        b'0'..=b'9' => Some(byte - b'0'),
-        b'a'..=b'f' => Some(byte - b'a' + 10),
-        b'A'..=b'F' => Some(byte - b'A' + 10),
-        _ => None,
-    }
+    // `as`, which is proved to lose nothing: `try_from` would add a case that never comes
+    char::from(byte).to_digit(16).unwrap() as u8
 }
 
 // The byte that two hexadecimal digits write.
@@ -20,22 +18,14 @@ fn hex_byte(high: u8, low: u8) -> u8
     requires low_digit { digit_value low < 16 }
     ensures { result ≡ digit_value high * 16 + digit_value low }
 {
-    match (hex_digit(high), hex_digit(low)) {
-        (Some(h), Some(l)) => h * 16 + l,
-        _ => unreachable(),
-    }
+    hex_digit(high) * 16 + hex_digit(low)
 }
 
 // Tells whether a text has hexadecimal digits alone.
 fn all_hex(text: &[u8]) -> bool
     ensures { Decides result ((k : ℕ) → k < length text.now → digit_value (slice_index text.now k) < 16) }
 {
-    for b in text {
-        if hex_digit(*b).is_none() {
-            return false;
-        }
-    }
-    true
+    text.iter().all(|b| b.is_ascii_hexdigit())
 }
 
 // Puts the bytes that a text of hexadecimal digits writes, two digits a byte, at the front of a buffer, keeps
@@ -46,14 +36,12 @@ pub fn hex_bytes(text: &[u8], out: &mut [u8]) -> Option<usize>
     ensures rest { elim result [ Some n ↦ drop n out.new ≡ drop n out.old | None ↦ out.new ≡ out.old ] }
 {
     let n = text.len() / 2;
-    if text.len() % 2 != 0 || out.len() < n {
+    if text.len() % 2 != 0 || out.len() < n || !all_hex(text) {
         return None;
     }
-    if !all_hex(text) {
-        return None;
-    }
-    for i in 0..n {
-        out[i] = hex_byte(text[2 * i], text[2 * i + 1]);
+    // by index: of a buffer that a chain writes through iter_mut, a proof knows nothing afterwards
+    for (i, pair) in text.chunks_exact(2).enumerate() {
+        out[i] = hex_byte(pair[0], pair[1]);
     }
     Some(n)
 }

@@ -8,6 +8,9 @@ use imageformat::{HEAD_BYTES, ROW_BYTES, u16_at};
 // The length's place within its row.
 const LENGTH_IN_ROW: usize = 12;
 
+// The calls below ask for few entries, so that no sum is too great; the writer's own law says it of its count, but a
+// number of entries is asked of them before there is a writer.
+
 // The bytes that a file of `count` entries may take.
 pub(super) fn room_for(count: usize) -> usize
     requires { count ≤ 128 }
@@ -38,8 +41,5 @@ pub(super) fn length_in_row(buf: &[u8], k: usize) -> usize
     requires { (k ≤ 128) × (row_place (k + 1) ≤ length buf.now) }
     ensures { result ≡ number_at 2 (row_place k + 12) buf.now }
 {
-    match u16_at(buf, place_of_row(k) + LENGTH_IN_ROW) {
-        Some(length) => length as usize,
-        None => unreachable(),
-    }
+    usize::from(u16_at(buf, place_of_row(k) + LENGTH_IN_ROW).unwrap())
 }

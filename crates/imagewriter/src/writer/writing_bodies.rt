@@ -2,7 +2,7 @@ ghost use Rattle.imagewriter.specs.Answers.{BodyAnswer, FinishAnswer};
 ghost use Rattle.imagewriter.specs.Standing.{BodyMeans, FinishMeans};
 
 use super::Bodies;
-use super::buffer::{length_in_row, put_bytes, room_for};
+use super::buffer::{length_in_row, put_bytes};
 use tables::{LONGEST_TEXT, Refusal};
 
 impl Bodies {
@@ -11,18 +11,12 @@ impl Bodies {
         ensures answer { BodyAnswer self.old buf.old text.now result self.new buf.new }
         ensures meaning { BodyMeans self.old buf.old text.now result self.new buf.new }
     {
-        if buf.len() < room_for(self.count) {
-            return Err(Refusal::WriterShort);
-        }
-        if self.standing == self.count {
-            return Err(Refusal::AllStand);
-        }
+        self.ready(buf)?;
         if text.len() > LONGEST_TEXT || text.len() != length_in_row(buf, self.standing) {
             return Err(Refusal::BodyLength);
         }
         put_bytes(buf, self.place, text);
-        self.standing += 1;
-        self.place += text.len();
+        self.count_one(text.len());
         Ok(())
     }
 
@@ -32,9 +26,7 @@ impl Bodies {
         ensures answer { FinishAnswer self result }
         ensures meaning { FinishMeans self result }
     {
-        if self.standing < self.count {
-            return Err((self, Refusal::Missing));
-        }
-        Ok(self.place)
+        let bodies = self.complete()?;
+        Ok(bodies.place)
     }
 }

@@ -18,15 +18,13 @@ impl Rows {
         if buf.len() < room_for(n) {
             return Err(Refusal::WriterShort);
         }
+        // `as`, which is proved to lose nothing here and below: `try_from` would add a case that never comes
         put_bytes(buf, 0, &head_bytes(n as u16));
-        Ok(Rows {
-            count: n,
-            standing: 0,
-            place: place_of_row(n),
-        })
+        Ok(Rows::at_start(n))
     }
 
     // Writes the next row: a stamp, and the length of the body to come. Refusals 24, 25, 28 and 29.
+    // Two numbers and no `Stamp`, since a wrong stamp is refused here.
     pub fn row(
         &mut self,
         buf: &mut [u8],
@@ -41,12 +39,7 @@ impl Rows {
         if length > LONGEST_TEXT {
             return Err(Refusal::RowLong);
         }
-        if buf.len() < room_for(self.count) {
-            return Err(Refusal::WriterShort);
-        }
-        if self.standing == self.count {
-            return Err(Refusal::AllStand);
-        }
+        self.ready(buf)?;
         let row = Row {
             edition: stamp.edition,
             hand: stamp.hand,
@@ -54,8 +47,7 @@ impl Rows {
             length: length as u16,
         };
         put_bytes(buf, place_of_row(self.standing), &row.to_bytes());
-        self.standing += 1;
-        self.place += length;
+        self.count_one(length);
         Ok(())
     }
 
@@ -64,13 +56,7 @@ impl Rows {
         ensures answer { TurnAnswer self result }
         ensures meaning { TurnMeans self result }
     {
-        if self.standing < self.count {
-            return Err((self, Refusal::Missing));
-        }
-        Ok(Bodies {
-            count: self.count,
-            standing: 0,
-            place: place_of_row(self.count),
-        })
+        let rows = self.complete()?;
+        Ok(Bodies::at_start(rows.count))
     }
 }

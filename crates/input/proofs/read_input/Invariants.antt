@@ -1,8 +1,8 @@
-use Rattle.std.proofs.Common.{◌-◌, ◌≤◌, length}
+use Rattle.std.proofs.Common.{◌≤◌, length}
 use Rattle.input.proofs.read_input.Given as goal
 
-abbrev pub invariant-loop-got : goal.invariant-loop-got
-invariant-loop-got g l = l.got ≤ length l.initial.buf
+abbrev pub invariant-loop-input : goal.invariant-loop-input
+invariant-loop-input g l = length l.room ≤ l.size
 
-abbrev pub decreases-loop-got : goal.decreases-loop-got
-decreases-loop-got g l = length l.initial.buf - l.got
+abbrev pub decreases-loop-input : goal.decreases-loop-input
+decreases-loop-input g l = length l.room

@@ -1,12 +1,7 @@
-use Rattle.std.proofs.Common.{length, ap, ◌∙◌, rules}
+use Rattle.std.proofs.Common.{length, ap, ◌∙◌}
 use Rattle.std.proofs.lemmas.Result.{err_from_is_err_and}
-use Rattle.transfer.proofs.Steps.{within, front, transfer_refused, transfer_done}
+use Rattle.transfer.proofs.Steps.{front, transfer_refused, transfer_done}
 use Rattle.transfer.proofs.transfer_table.Goals as goal
-
-pub slice_bounds-bytes-end : goal.slice_bounds-bytes-end
-slice_bounds-bytes-end g c =
-    let h = within (g.R.Readable.table c.args.from.now) c.args.file.now c.write_table.new.buf c.in_ok-file_length.file_length c.in_ok-file_length.ensures in
-    search rules
 
 pub returns-in_err-restore_file : goal.returns-in_err-restore_file
 returns-in_err-restore_file g c =

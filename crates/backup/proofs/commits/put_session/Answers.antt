@@ -7,7 +7,7 @@ pub put_holds-requires : goal.put_holds-requires
 put_holds-requires g c =
     let holds = c.in-Some.ensures in
     let hand = c.next_hand.ensures [] [] in
-    record { hand_lawful = omega (arith, hand, holds.3); texts_fit = holds.1 }
+    omega (arith, hand, holds.2)
 
 -- the holds are those of the session
 pub returns-in-Some : goal.returns-in-Some

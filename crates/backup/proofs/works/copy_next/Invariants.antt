@@ -1,4 +1,4 @@
-use Rattle.std.proofs.Common.{◌≡◌, ◌-◌, length}
+use Rattle.std.proofs.Common.{◌≡◌}
 use Rattle.sessions.specs.View.{view}
 use Rattle.backup.proofs.CopyByCopy.{Going}
 use Rattle.backup.proofs.works.copy_next.Given as goal
@@ -7,7 +7,4 @@ use Rattle.backup.proofs.works.copy_next.Given as goal
 abbrev pub invariant-loop-made : goal.invariant-loop-made
 invariant-loop-made g l =
     (l.sessions.entries ≡ l.initial.sessions.entries)
-    × (length (g.L.Readable.table l.live) ≡ l.initial.sessions.entries → Going l.limit l.made (view l.initial.sessions (g.L.Readable.table l.live) (g.I.Readable.table l.initial.image)) (view l.sessions (g.L.Readable.table l.live) (g.I.Readable.table l.image)))
-
-abbrev pub decreases-loop-made : goal.decreases-loop-made
-decreases-loop-made g l = l.limit - l.made
+    × Going l.limit l.made (view l.initial.sessions (g.L.Readable.table l.live) (g.I.Readable.table l.initial.image)) (view l.sessions (g.L.Readable.table l.live) (g.I.Readable.table l.image))

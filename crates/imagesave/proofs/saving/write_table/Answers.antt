@@ -1,19 +1,24 @@
-use Rattle.std.proofs.Common.{◌≡◌, ◌≤◌, length, ◌∙◌, arith, rules}
-use Rattle.imageformat.specs.Format.{written}
-use Rattle.imagewriter.specs.Places.{room}
-use Rattle.imagesave.specs.Saving.{Behind}
-use Rattle.imagesave.proofs.Turns.{head_turn, whole}
+use Rattle.std.proofs.Common.{◌≡◌, ◌+◌, Ok, rules}
+use Rattle.imagesave.proofs.Turns.{RowsSaved, row_saved, body_saved}
 use Rattle.imagesave.proofs.saving.write_table.Goals as goal
+use Rattle.imagesave.proofs.saving.write_table.Goals.{After-row}
 
-pub returns-in-Ok-finish : goal.returns-in-Ok-finish
-returns-in-Ok-finish g c =
-    let from = c.args.from.now in
-    let t = g.R.Readable.table from in
-    let was = c.args.buf.now in
-    let buf = c.write_bodies.new.buf in
-    let n = c.count.result in
-    let few = (g.R.Readable.lawful from).0 in
-    let file = c.finish.ensures.meaning t buf c.write_bodies.ensures.stand c.write_bodies.ensures.all in
-    let long : c.in-Ok-finish.length ≡ length (written t) = cc file.0 in
-    let begun : room n ≤ length was → Behind t was c.begin.new.buf = λ wide. head_turn t n was c.begin.new.buf wide (c.in_ok-rows.ensures.answer.2 (omega arith) wide).1 in
-    (λ roomy. (simp long, whole t was buf file.1 (c.write_bodies.ensures.behind ∙ c.write_rows.ensures.behind ∙ begun (omega arith))), search rules)
+-- the row of an entry is taken, and one more is written
+row_done : (g : _) (c : After-row g) → (c.row.result ≡ Ok tt) × RowsSaved (g.R.Readable.table c.args.from.now) c.args.buf.now (c.loop-e.e + 1) c.row.new.self c.row.new.buf
+row_done g c =
+    row_saved (g.R.Readable.table c.args.from.now) c.args.buf.now c.loop-e.e c.loop-e.rows c.row.new.self c.loop-e.buf c.row.new.buf c.loop-e.text c.text.new.buf _ _ _ c.row.result (g.R.Readable.lawful c.args.from.now) (search rules) (search rules) c.in_ok-edition.ensures c.in_ok-length.ensures c.row.auto.buf c.loop-e.invariant c.row.ensures.answer c.row.ensures.meaning
+
+-- so it is not refused
+pub returns-in_err-row : goal.returns-in_err-row
+returns-in_err-row g c =
+    let done = row_done g (goal.at.returns-in_err-row g c).After-row in
+    absurd (cc (done.0, c.in_err-row.was))
+
+-- and the loop goes on
+pub loop-e-preserved : goal.loop-e-preserved
+loop-e-preserved g c = (row_done g (goal.at.loop-e-preserved g c).After-row).1
+
+-- one more body is written
+pub loop-e-2-preserved : goal.loop-e-2-preserved
+loop-e-2-preserved g c =
+    (body_saved (g.R.Readable.table c.args.from.now) c.args.buf.now c.loop-e-2.e c.loop-e-2.bodies c.body.new.self c.loop-e-2.buf c.body.new.buf c.loop-e-2.text c.fetch_text.new.out _ c.body.result (g.R.Readable.lawful c.args.from.now) (search rules) (search rules) c.in_ok-length-2.ensures c.body.auto.buf c.loop-e-2.invariant c.body.ensures.answer c.body.ensures.meaning).1

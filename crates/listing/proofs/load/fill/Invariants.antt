@@ -1,13 +1,11 @@
 use Rattle.std.proofs.Common.{◌≡◌, ◌≤◌, ◌++◌, length, take}
+use Rattle.std.specs.Iterator.Adapters.{enumerate_source, enumerate_count}
 use Rattle.words.specs.Lines.{lines}
-use Rattle.listing.specs.Listing.{listed}
+use Rattle.listing.specs.Listing.{listed, entries_left}
 use Rattle.listing.proofs.load.fill.Given as goal
 
-abbrev pub invariant-loop-first : goal.invariant-loop-first
-invariant-loop-first g l =
+abbrev pub invariant-loop-e : goal.invariant-loop-e
+invariant-loop-e g l =
     (length (g.S.Readable.table l.to) ≡ length (listed (lines l.listing)))
-    × (l.e ≤ length (g.S.Readable.table l.to))
-    × (take l.e (g.S.Readable.table l.to) ++ listed (lines l.text) ≡ listed (lines l.listing))
-
-abbrev pub decreases-loop-first : goal.decreases-loop-first
-decreases-loop-first g l = length l.text
+    × (enumerate_count l.e-iterator ≤ length (g.S.Readable.table l.to))
+    × (take (enumerate_count l.e-iterator) (g.S.Readable.table l.to) ++ entries_left (enumerate_source l.e-iterator) ≡ listed (lines l.listing))

@@ -1,13 +1,10 @@
-use Rattle.std.proofs.Common.{rules}
 use Rattle.rules.specs.Office.{leave}
-use Rattle.sessions.specs.View.{view}
-use Rattle.backup.proofs.Counts.{served}
+use Rattle.sessions.specs.Answers.{did}
+use Rattle.backup.proofs.Counts.{kept_by_sessions}
 use Rattle.backup.proofs.office.OfficeServes.leave.Goals as goal
 
--- the session table keeps to the rule with the office's tables
-pub returns : goal.returns
-returns g c kept =
+-- what the rule leaves is kept
+pub invariant_of-self : goal.invariant_of-self
+invariant_of-self g c =
     let o = c.args.self.now in
-    let live = g.L.Readable.table o.live in
-    let image = g.I.Readable.table o.image in
-    served g.K.Modes.kind o.sessions.entries (view o.sessions live image) kept _ (leave c.args.session) _ _ (search rules) (search (rules, kept.0))
+    record { kept = kept_by_sessions g.K.Modes.kind o.sessions c.leave.new.self (g.L.Readable.table o.live) (g.I.Readable.table o.image) (leave c.args.session) (did c.leave.result) o.kept (let r = c.leave.ensures in (r.0, λ l i n. r.1 l i n g.K.Modes.kind)) }

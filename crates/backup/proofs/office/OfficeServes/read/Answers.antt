@@ -16,7 +16,7 @@ returns-in-None g c =
     let e = c.args.entry in
     let live = g.L.Readable.table o.live in
     let image = g.I.Readable.table o.image in
-    let told = c.in-Ok.ensures in
+    let told = c.in_ok-n.ensures in
     let buf = c.args.buf.now in
     let asked = c.own_text.new.buf in
     let buf' = c.text.new.buf in
@@ -28,8 +28,7 @@ returns-in-None g c =
     let same : asked ≡ buf = subst S c.in-None.is told.rest in
     record {
       rule =
-          λ kept.
-          let within : e < length live = (let w = told.within in let n = kept.0 in omega (arith, w, n)) in
-          subst P (front_read (entry live e).text asked buf' r (c.text.ensures.0 within)) (subst Q c.in-None.is (told.rule live image kept.0));
+          let within : e < length live = (let w = told.within in let n = o.kept.0 in omega (arith, w, n)) in
+          subst P (front_read (entry live e).text asked buf' r (c.text.ensures.0 within)) (subst Q c.in-None.is (told.rule live image o.kept.0));
       rest = subst R same (text_rest live e asked buf' r c.text.ensures);
     }

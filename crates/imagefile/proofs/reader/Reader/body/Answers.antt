@@ -11,7 +11,7 @@ slice_bounds-result-end c =
     let bs = file.bytes.now in
     let row = c.in_ok-row.ensures in
     let n = shown_length bs in
-    let h = part_ends bs c.in_ok-row.row c.args.e row.1 (file.head, file.rows, file.end) (omega arith) in
+    let h = part_ends bs c.in_ok-row.row c.args.e _ row.1 c.from-length.ensures (file.head, file.rows, file.end) (omega arith) in
     search rules
 
 -- the part is the body, and the entry's text
@@ -20,5 +20,5 @@ returns c =
     let bs = c.args.self.now.bytes.now in
     let row = c.in_ok-row.ensures in
     let n = shown_length bs in
-    let part = part_is bs c.in_ok-row.row c.args.e row.1 in
+    let part = part_is bs c.in_ok-row.row c.args.e _ row.1 c.from-length.ensures in
     (row.0, part ∙ sym (ap (λ (x : Entry). x.text) (shown_entry bs c.args.e (omega arith))), part)

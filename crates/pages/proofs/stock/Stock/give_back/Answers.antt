@@ -11,10 +11,11 @@ shift-requires c =
     let n = c.loop-self.invariant.0 in
     let sized = blocks_length s.pages s.chains c.args.e in
     record {
-      a_in = omega (arith, c.requires.within);
+      a_in = omega (arith, c.requires);
       b_in = omega arith;
-      apart = λ e. omega (arith, c.requires.within);
+      apart = λ e. omega (arith, c.requires);
       some = omega arith;
+      room = λ h. absurd (omega arith);
     }
 
 pub loop-self-smaller : goal.loop-self-smaller
@@ -31,8 +32,7 @@ returns c =
     let sized = blocks_length s.pages s.chains c.args.e in
     let none : length (blocks s c.args.e) ≡ 0 = omega arith in
     record {
-      stays = v.0;
       none = nil_from_length (blocks s c.args.e) none;
-      room = room c.args.self.now s c.args.e c.requires.within v.0 none v.1 c.requires.small;
-      rest = v.1;
+      room = room s c.args.e (omega (arith, v.0, c.requires)) none;
+      others = v;
     }

@@ -22,12 +22,13 @@ pub invariant_of-self : goal.invariant_of-self
 invariant_of-self c =
     let s = c.args.self.now in
     let long : length c.args.block ≡ 16 = search rules in
-    let k = kept s c.args.a c.args.b c.args.block c.requires.a_in c.requires.b_in c.requires.apart c.requires.some long in
+    let k = kept s c.args.a c.args.b c.args.block c.requires.a_in c.requires.b_in c.requires.apart c.requires.some long c.requires.room in
     record {
       lengths = (simp length-set s.lengths.0, simp length-set s.lengths.1, s.lengths.2);
       whole = k.0;
       once = k.1;
       counted = k.2;
+      small = k.3;
     }
 
 pub returns : goal.returns

@@ -1,6 +1,6 @@
-use Rattle.std.proofs.Common.{arith}
-use Rattle.pages.specs.Laws.{table_length}
+use Rattle.std.proofs.Common.{rules}
+use Rattle.pages.proofs.Finds.{table_rows}
 use Rattle.pages.proofs.table.PageStoreReadable.count.Goals as goal
 
 pub returns : goal.returns
-returns c = let n = table_length c.args.self.now in omega arith
+returns c = search (rules, table_rows)

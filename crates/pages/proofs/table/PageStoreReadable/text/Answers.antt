@@ -1,21 +1,19 @@
-use Rattle.std.proofs.Common.{◌≡◌, ℕ, ◌-◌, List, get_or, ap, subst, arith, rules}
-use Rattle.tables.specs.Answers.{Front}
-use Rattle.pages.specs.Rows.{row}
-use Rattle.pages.specs.Laws.{table_length}
-use Rattle.pages.proofs.Finds.{row_read, text_read}
+use Rattle.std.proofs.Common.{arith, rules}
+use Rattle.std.proofs.lemmas.List.{length-take-le}
+use Rattle.pages.specs.Laws.{table_entry}
+use Rattle.pages.proofs.Finds.{table_rows}
 use Rattle.pages.proofs.table.PageStoreReadable.text.Goals as goal
 
-pub returns-then-e-self : goal.returns-then-e-self
-returns-then-e-self c = let n = table_length c.args.self.now in search rules
+pub returns-in_err-row : goal.returns-in_err-row
+returns-in_err-row c = search (rules, table_rows)
+
+-- a text is no longer than its pages
+pub slice_bounds-fill_front-end : goal.slice_bounds-fill_front-end
+slice_bounds-fill_front-end c =
+    let s = c.args.self.now in
+    let f = s.fits c.args.e in
+    let long = c.read.ensures.long in
+    search (rules, arith, length-take-le)
 
 pub returns : goal.returns
-returns c =
-    let s = c.args.self.now in
-    let e = c.args.e in
-    let n = table_length s in
-    let len = ap (λ r. r.len) (row_read s e (omega arith) c.index-self-e.result) in
-    let same : (get_or s.rows e c.index-self-e.result).len - 0 ≡ (row s.rows e).len = omega arith in
-    let P : List ℕ → Type 0 = λ t. Front t c.args.buf.now c.fill_front.result c.fill_front.new.buf in (
-      λ l. subst P (text_read s e (omega arith) c.read-blocks.result _ same c.read-blocks.ensures) c.fill_front.ensures,
-      λ l. absurd (omega arith),
-    )
+returns c = search (rules, table_rows, table_entry)

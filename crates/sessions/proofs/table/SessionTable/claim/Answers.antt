@@ -1,129 +1,104 @@
-use Rattle.std.proofs.Common.{◌<◌, ◌≤◌, length, sym, refl, ◌∙◌, arith}
-use Rattle.tables.specs.declared.refusal.Refusal.TheVariants.{Ended}
+use denote.Enum.Bare.{same_true, same_false}
+use Rattle.std.proofs.Common.{◌≡◌, ◌<◌, length, None, Err, rules, sym, refl, ap, ◌∙◌, subst, arith}
+use Rattle.tables.specs.contracts.refusal.Refusal.{the_type}
+use Rattle.tables.specs.declared.refusal.Refusal.TheVariants.{HoldsFull, Ended}
 use Rattle.rules.specs.Office.{claim, refused, done}
-use Rattle.sessions.proofs.ClaimRules.{claim_kept, asked, asked_for, claim_nowhere, claim_past, claim_mode, claim_full, claim_conflict, claim_paused, claim_ended, claim_done}
+use Rattle.rules.specs.Rules.{Step}
+use Rattle.sessions.specs.Answers.{did}
+use Rattle.keyed.proofs.Held.{not_free}
+use Rattle.sessions.specs.Sessions.{session_number}
+use Rattle.sessions.proofs.ClaimRules.{asked, asked_for, place_below, granted_as, claim_kept, claim_full, claim_conflict, claim_paused, claim_ended, claim_done}
 use Rattle.sessions.proofs.Leaves.{ended_kept}
-use Rattle.sessions.proofs.Parts.{parts, kept, kept_for, ghosts, step_with, kept_with}
+use Rattle.sessions.proofs.Parts.{parts, seen, with_place, kept, kept_for, ghosts, step_with, kept_with, the_same}
 use Rattle.sessions.proofs.table.SessionTable.claim.Goals as goal
 
-pub returns-in_default : goal.returns-in_default
-returns-in_default g c =
-    let t = c.args.self.now in
-    record { rule = λ live image n. claim_nowhere g.K.Modes.kind (parts t) live image c.args.s c.args.e c.args.m c.in_default.ensures; same = refl }
-
-pub returns-then-e-self : goal.returns-then-e-self
-returns-then-e-self g c =
-    let t = c.args.self.now in
-    record {
-      rule =
-          λ live image n.
-          let h : length live ≤ c.args.e = omega (arith, n, c.if-e-self.true) in
-          claim_past g.K.Modes.kind (parts t) live image c.args.s c.args.e c.args.m c.in-Some.i c.in-Some.ensures.1 h;
-      same = refl;
-    }
-
-pub returns-then-m-modes : goal.returns-then-m-modes
-returns-then-m-modes g c =
-    let t = c.args.self.now in
+pub returns-in_err-k : goal.returns-in_err-k
+returns-in_err-k g c =
     let K = g.K.Modes.kind in
-    let a : K.modes ≤ c.args.m = omega (arith, c.modes.ensures, c.if-m-modes.true) in
-    record {
-      rule =
-          λ live image n.
-          let h : c.args.e < length live = omega (arith, n, c.if-e-self.false) in
-          claim_mode K (parts t) live image c.args.s c.args.e c.args.m c.in-Some.i c.in-Some.ensures.1 h a;
-      same = refl;
-    }
-
-pub returns-in_default-hold_place : goal.returns-in_default-hold_place
-returns-in_default-hold_place g c =
     let t = c.args.self.now in
-    let K = g.K.Modes.kind in
-    let p = c.in-Some.ensures in
-    let a : c.args.m < K.modes = omega (arith, c.modes.ensures, c.if-m-modes.false) in
-    record {
-      rule =
-          λ live image n.
+    let m : c.args.m < K.modes = omega (arith, c.modes.ensures, c.if-m-modes.false) in
+    let r : c.from_residual-in_err-k.result ≡ Err HoldsFull = search rules in (
+      refl,
+      λ live image n.
           let h : c.args.e < length live = omega (arith, n, c.if-e-self.false) in
-          claim_full K (parts t) live image c.args.s c.args.e c.args.m c.in-Some.i p.0 (kept_for t live n) p.1 h a c.in_default-hold_place.ensures;
-      same = refl;
-    }
+          subst (λ r. Step K (seen (parts t) live image) (claim c.args.s c.args.e c.args.m) (did r) (seen (parts t) live image)) (sym r)
+          (claim_full K (parts t) live image c.args.s c.args.e c.args.m c.in_ok-i.session.now (kept_for t live n) c.in_ok-i.ensures.2 h m c.hold_place.ensures.is c.in_err-k.ensures.ok_part),
+    )
 
 pub returns-then-conflicts : goal.returns-then-conflicts
 returns-then-conflicts g c =
-    let t = c.args.self.now in
     let K = g.K.Modes.kind in
+    let t = c.args.self.now in
+    let p = c.in_ok-i.ensures in
     let m : c.args.m < K.modes = omega (arith, c.modes.ensures, c.if-m-modes.false) in
-    let a = asked K t c.args.s c.args.e c.args.m c.in-Some.i c.in-Some-hold_place.k c.wanted-wanted.result
-    c.in-Some.ensures c.if-e-self.false m c.in-Some-hold_place.ensures c.wanted-wanted.ensures in
-    record {
-      rule =
-          λ live image n.
-          claim_conflict K (parts t) live image c.args.s c.args.e c.args.m c.in-Some.i c.in-Some-hold_place.k c.wanted-wanted.result (asked_for live n a)
-          (sym c.if-conflicts.ensures);
-      same = refl;
-    }
+    let a = asked K t c.args.s c.args.e c.args.m c.in_ok-i.i c.in_ok-k.k c.wanted-wanted.result c.in_ok-i.session.now
+    p c.if-e-self.false m c.hold_place.ensures.is c.in_ok-k.ensures.ok_part c.wanted-wanted.ensures in
+    (refl, λ live image n. claim_conflict live image (asked_for live n a) c.if-conflicts.ensures)
 
-pub returns-in-Pause : goal.returns-in-Pause
-returns-in-Pause g c =
-    let t = c.args.self.now in
-    let K = g.K.Modes.kind in
-    let m : c.args.m < K.modes = omega (arith, c.modes.ensures, c.if-m-modes.false) in
-    let a = asked K t c.args.s c.args.e c.args.m c.in-Some.i c.in-Some-hold_place.k c.wanted-wanted.result
-    c.in-Some.ensures c.if-e-self.false m c.in-Some-hold_place.ensures c.wanted-wanted.ensures in
-    record {
-      rule =
-          λ live image n.
-          claim_paused K (parts t) live image c.args.s c.args.e c.args.m c.in-Some.i c.in-Some-hold_place.k c.wanted-wanted.result (asked_for live n a)
-          (sym c.conflicts.ensures ∙ c.if-conflicts.false) c.in-Pause.ensures;
-      same = refl;
-    }
+pub grant-requires : goal.grant-requires
+grant-requires g c =
+    place_below c.args.self.now c.args.s c.in_ok-k.k c.in_ok-i.session.now c.in_ok-i.ensures.2 c.hold_place.ensures.within c.in_ok-k.ensures.ok_part
 
 pub invariant_of-self : goal.invariant_of-self
 invariant_of-self g c =
-    let t = c.args.self.now in
-    let p = c.in-Some.ensures in
-    ghosts (kept_with (parts t) c.in-Some.i c.end.ensures (ended_kept (parts t) c.args.s c.in-Some.i p.0 (kept t) p.1))
-
-pub returns-in-End : goal.returns-in-End
-returns-in-End g c =
-    let t = c.args.self.now in
     let K = g.K.Modes.kind in
-    let m : c.args.m < K.modes = omega (arith, c.modes.ensures, c.if-m-modes.false) in
-    let a = asked K t c.args.s c.args.e c.args.m c.in-Some.i c.in-Some-hold_place.k c.wanted-wanted.result
-    c.in-Some.ensures c.if-e-self.false m c.in-Some-hold_place.ensures c.wanted-wanted.ensures in
-    record {
-      rule =
-          λ live image n.
-          step_with K (parts t) (claim c.args.s c.args.e c.args.m) (refused Ended) live image c.in-Some.i c.end.ensures
-          (claim_ended K (parts t) live image c.args.s c.args.e c.args.m c.in-Some.i c.in-Some-hold_place.k c.wanted-wanted.result (asked_for live n a)
-          (sym c.conflicts.ensures ∙ c.if-conflicts.false) c.in-End.ensures);
-      same = refl;
-    }
-
-pub invariant_of-self-in-Grant : goal.invariant_of-self-in-Grant
-invariant_of-self-in-Grant g c =
     let t = c.args.self.now in
-    let K = g.K.Modes.kind in
+    let p = c.in_ok-i.ensures in
     let m : c.args.m < K.modes = omega (arith, c.modes.ensures, c.if-m-modes.false) in
-    let a = asked K t c.args.s c.args.e c.args.m c.in-Some.i c.in-Some-hold_place.k c.wanted-wanted.result
-    c.in-Some.ensures c.if-e-self.false m c.in-Some-hold_place.ensures c.wanted-wanted.ensures in
-    ghosts (kept_with (parts t) c.in-Some.i c.grant.ensures
-    (claim_kept K t.entries (parts t) c.args.s c.args.e c.args.m c.in-Some.i c.in-Some-hold_place.k c.wanted-wanted.result c.in-Grant.side
-    c.in-Some-hold_place.ensures.0 a))
+    let a = asked K t c.args.s c.args.e c.args.m c.in_ok-i.i c.in_ok-k.k c.wanted-wanted.result c.in_ok-i.session.now
+    p c.if-e-self.false m c.hold_place.ensures.is c.in_ok-k.ensures.ok_part c.wanted-wanted.ensures in
+    let same = the_same (parts t) c.args.s c.in_ok-i.i c.in_ok-i.session.now _ p.1 p.2 c.in-Some.is in
+    ghosts (kept_with (parts t) c.in_ok-i.i (granted_as c.in-Ok.side a same c.grant.ensures) (claim_kept c.in-Ok.side a))
 
-pub returns-in-Grant : goal.returns-in-Grant
-returns-in-Grant g c =
-    let t = c.args.self.now in
+pub returns-in-Some : goal.returns-in-Some
+returns-in-Some g c =
     let K = g.K.Modes.kind in
+    let t = c.args.self.now in
+    let p = c.in_ok-i.ensures in
     let m : c.args.m < K.modes = omega (arith, c.modes.ensures, c.if-m-modes.false) in
-    let a = asked K t c.args.s c.args.e c.args.m c.in-Some.i c.in-Some-hold_place.k c.wanted-wanted.result
-    c.in-Some.ensures c.if-e-self.false m c.in-Some-hold_place.ensures c.wanted-wanted.ensures in
-    record {
-      rule =
-          λ live image n.
-          step_with K (parts t) (claim c.args.s c.args.e c.args.m) done live image c.in-Some.i c.grant.ensures
-          (claim_done K (parts t) live image c.args.s c.args.e c.args.m c.in-Some.i c.in-Some-hold_place.k c.wanted-wanted.result (asked_for live n a) c.in-Grant.side
-          (sym c.conflicts.ensures ∙ c.if-conflicts.false) c.in-Grant.ensures);
-      same = refl;
-    }
+    let a = asked K t c.args.s c.args.e c.args.m c.in_ok-i.i c.in_ok-k.k c.wanted-wanted.result c.in_ok-i.session.now
+    p c.if-e-self.false m c.hold_place.ensures.is c.in_ok-k.ensures.ok_part c.wanted-wanted.ensures in
+    let same = the_same (parts t) c.args.s c.in_ok-i.i c.in_ok-i.session.now _ p.1 p.2 c.in-Some.is in (
+      refl,
+      λ live image n.
+          step_with K (parts t) (claim c.args.s c.args.e c.args.m) done live image c.in_ok-i.i (granted_as c.in-Ok.side a same c.grant.ensures)
+          (claim_done live image (asked_for live n a) c.in-Ok.side c.conflicts.ensures c.if-conflicts.false c.in-Ok.ensures),
+    )
+
+-- the place is not free
+pub returns-in_default : goal.returns-in_default
+returns-in_default g c =
+    let p = c.in_ok-i.ensures in
+    not_free session_number c.args.self.now.sessions c.args.s c.in_ok-i.i _ p.1 c.in_default.is
+
+pub invariant_of-self-then-eq : goal.invariant_of-self-then-eq
+invariant_of-self-then-eq g c =
+    let t = c.args.self.now in
+    let p = c.in_ok-i.ensures in
+    ghosts (ended_kept (parts t) c.args.s c.in_ok-i.i p.0 (kept t) p.1)
+
+pub returns-then-eq : goal.returns-then-eq
+returns-then-eq g c =
+    let K = g.K.Modes.kind in
+    let t = c.args.self.now in
+    let p = c.in_ok-i.ensures in
+    let m : c.args.m < K.modes = omega (arith, c.modes.ensures, c.if-m-modes.false) in
+    let a = asked K t c.args.s c.args.e c.args.m c.in_ok-i.i c.in_ok-k.k c.wanted-wanted.result c.in_ok-i.session.now
+    p c.if-e-self.false m c.hold_place.ensures.is c.in_ok-k.ensures.ok_part c.wanted-wanted.ensures in
+    let ended : c.in-Err.refusal ≡ Ended = same_true the_type (search rules) _ _ (sym c.if-eq.ensures) in (
+      refl,
+      λ live image n.
+          subst (λ f. Step K (seen (parts t) live image) (claim c.args.s c.args.e c.args.m) (refused f) (seen (with_place (parts t) c.in_ok-i.i None) live image)) (sym ended)
+          (claim_ended live image (asked_for live n a) c.conflicts.ensures c.if-conflicts.false (ap Err (sym ended) ∙ c.in-Err.ensures)),
+    )
+
+pub returns-else-eq : goal.returns-else-eq
+returns-else-eq g c =
+    let K = g.K.Modes.kind in
+    let t = c.args.self.now in
+    let p = c.in_ok-i.ensures in
+    let m : c.args.m < K.modes = omega (arith, c.modes.ensures, c.if-m-modes.false) in
+    let a = asked K t c.args.s c.args.e c.args.m c.in_ok-i.i c.in_ok-k.k c.wanted-wanted.result c.in_ok-i.session.now
+    p c.if-e-self.false m c.hold_place.ensures.is c.in_ok-k.ensures.ok_part c.wanted-wanted.ensures in
+    let other = same_false the_type _ _ (sym c.if-eq.ensures) in
+    (refl, λ live image n. claim_paused live image (asked_for live n a) c.in-Err.refusal c.conflicts.ensures c.if-conflicts.false c.in-Err.ensures other)

@@ -1,31 +1,44 @@
-use Rattle.std.proofs.Common.{◌<◌, refl, arith}
-use Rattle.sessions.proofs.CommitRules.{commit_nowhere, commit_done, hand_left, commit_kept}
+use Rattle.std.proofs.Common.{rules, true, false, ◌≡◌, suc, cond, sym, refl, ap, ◌∙◌, add-one, arith}
+use Rattle.keyed.specs.Keyed.{any_held}
+use Rattle.sessions.specs.Sessions.{is_written}
+use Rattle.sessions.proofs.CommitRules.{commit_done, hand_left, commit_kept}
 use Rattle.sessions.proofs.Parts.{parts, kept, ghosts}
 use Rattle.sessions.proofs.table.SessionTable.end_commit.Goals as goal
 
-pub returns-in_default : goal.returns-in_default
-returns-in_default c =
+pub overflow_add-self : goal.overflow_add-self
+overflow_add-self c =
     let t = c.args.self.now in
-    record { rule = λ K live image n. commit_nowhere K t live image c.args.s c.in_default.ensures; same = refl }
-
-pub hand_after-self-requires : goal.hand_after-self-requires
-hand_after-self-requires c =
-    let t = c.args.self.now in
-    let p = c.in-Some.ensures in
-    let h : c.in-Some.i < 16 = omega (arith, p.0, t.places) in
-    (h, hand_left (parts t) c.args.s c.in-Some.i p.0 (kept t) p.1)
+    let p = c.in_ok-i.ensures in
+    omega (arith, hand_left (parts t) c.args.s c.in_ok-i.i p.0 (kept t) p.1)
 
 pub invariant_of-self : goal.invariant_of-self
 invariant_of-self c =
     let t = c.args.self.now in
-    let p = c.in-Some.ensures in
-    ghosts (commit_kept (parts t) c.args.s c.in-Some.i p.0 (kept t) p.1 c.hand_after-self.ensures c.end.ensures)
+    let p = c.in_ok-i.ensures in
+    ghosts (commit_kept (parts t) c.args.s c.in_ok-i.i p.0 (kept t) p.1 (omega arith))
 
-pub returns : goal.returns
-returns c =
+pub invariant_of-self-else-wrote : goal.invariant_of-self-else-wrote
+invariant_of-self-else-wrote c =
     let t = c.args.self.now in
-    let p = c.in-Some.ensures in
-    record {
-      rule = λ K live image n. commit_done K t live image c.args.s c.in-Some.i n p.0 p.1 c.hand_after-self.ensures c.end.ensures;
-      same = refl;
-    }
+    let p = c.in_ok-i.ensures in
+    ghosts (commit_kept (parts t) c.args.s c.in_ok-i.i p.0 (kept t) p.1 (omega arith))
+
+pub returns-then-wrote : goal.returns-then-wrote
+returns-then-wrote c =
+    let t = c.args.self.now in
+    let p = c.in_ok-i.ensures in
+    let w : any_held is_written c.in_ok-i.session.now.holds ≡ true = search rules in (
+      refl,
+      λ live image n K.
+          commit_done K t live image c.args.s c.in_ok-i.i c.in_ok-i.session.now n p.1 p.2 (add-one t.next_hand ∙ sym (ap (λ b. cond b (suc t.next_hand) t.next_hand) w)),
+    )
+
+pub returns-else-wrote : goal.returns-else-wrote
+returns-else-wrote c =
+    let t = c.args.self.now in
+    let p = c.in_ok-i.ensures in
+    let w : any_held is_written c.in_ok-i.session.now.holds ≡ false = search rules in (
+      refl,
+      λ live image n K.
+          commit_done K t live image c.args.s c.in_ok-i.i c.in_ok-i.session.now n p.1 p.2 (sym (ap (λ b. cond b (suc t.next_hand) t.next_hand) w)),
+    )

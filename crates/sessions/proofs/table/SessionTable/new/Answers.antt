@@ -12,5 +12,5 @@ returns c =
       first_falls ((ltb 4_000_000_001 first, NumbersSpent) ∷ (ltb 128 entries, CountHigh) ∷ []) None
           (pass (le-ltb 4_000_000_001 first c.if-first.false) (pass (le-ltb 128 entries c.if-entries-gt-MOST_ENTRIES.false) over)),
       refl,
-      seen_new c.free.ensures first,
+      seen_new c.free_places.ensures first,
     )

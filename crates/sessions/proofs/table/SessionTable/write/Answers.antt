@@ -1,77 +1,37 @@
-use Rattle.std.proofs.Common.{◌<◌, ◌≤◌, length, sym, refl, arith}
+use Rattle.std.proofs.Common.{sym, refl}
 use Rattle.rules.specs.Office.{write, done}
-use Rattle.sessions.proofs.Parts.{parts, kept, ghosts, step_with, kept_with}
-use Rattle.sessions.proofs.WriteRules.{write_done, write_kept, write_nowhere, write_past, write_unheld, write_mode, write_long}
+use Rattle.keyed.proofs.Held.{not_free}
+use Rattle.sessions.specs.Sessions.{session_number}
+use Rattle.sessions.proofs.Parts.{parts, ghosts, step_with, kept_with, the_same}
+use Rattle.sessions.proofs.WriteRules.{writing, writing_for, written_as, write_done, write_kept}
 use Rattle.sessions.proofs.table.SessionTable.write.Goals as goal
-
-pub returns-in_default : goal.returns-in_default
-returns-in_default g c =
-    let t = c.args.self.now in
-    record { rule = λ live image n. write_nowhere g.K.Modes.kind (parts t) live image c.args.s c.args.e c.args.text.now c.in_default.ensures; same = refl }
-
-pub returns-then-e-self : goal.returns-then-e-self
-returns-then-e-self g c =
-    let t = c.args.self.now in
-    record {
-      rule =
-          λ live image n.
-          let h : length live ≤ c.args.e = omega (arith, n, c.if-e-self.true) in
-          write_past g.K.Modes.kind (parts t) live image c.args.s c.args.e c.args.text.now c.in-Some.i c.in-Some.ensures.1 h;
-      same = refl;
-    }
-
-pub returns-in_default-hold_of : goal.returns-in_default-hold_of
-returns-in_default-hold_of g c =
-    let t = c.args.self.now in
-    record {
-      rule =
-          λ live image n.
-          let h : c.args.e < length live = omega (arith, n, c.if-e-self.false) in
-          write_unheld g.K.Modes.kind (parts t) live image c.args.s c.args.e c.args.text.now c.in-Some.i c.in-Some.ensures.1 h c.in_default-hold_of.ensures;
-      same = refl;
-    }
-
-pub returns-then-not-writes : goal.returns-then-not-writes
-returns-then-not-writes g c =
-    let t = c.args.self.now in
-    record {
-      rule =
-          λ live image n.
-          let h : c.args.e < length live = omega (arith, n, c.if-e-self.false) in
-          write_mode g.K.Modes.kind (parts t) live image c.args.s c.args.e c.args.text.now c.in-Some.i c.in-Some-hold_of.k c.in-Some.ensures.1 h
-          c.in-Some-hold_of.ensures.1 (sym c.if-not-writes.ensures);
-      same = refl;
-    }
-
-pub returns-then-text-gt-LONGEST_TEXT : goal.returns-then-text-gt-LONGEST_TEXT
-returns-then-text-gt-LONGEST_TEXT g c =
-    let t = c.args.self.now in
-    record {
-      rule =
-          λ live image n.
-          let h : c.args.e < length live = omega (arith, n, c.if-e-self.false) in
-          write_long g.K.Modes.kind (parts t) live image c.args.s c.args.e c.args.text.now c.in-Some.i c.in-Some-hold_of.k c.in-Some.ensures.1 h
-          c.in-Some-hold_of.ensures.1 (sym c.if-not-writes.ensures) c.if-text-gt-LONGEST_TEXT.true;
-      same = refl;
-    }
 
 pub invariant_of-self : goal.invariant_of-self
 invariant_of-self g c =
     let t = c.args.self.now in
-    let p = c.in-Some.ensures in
-    let q = c.in-Some-hold_of.ensures in
-    ghosts (kept_with (parts t) c.in-Some.i c.keep.ensures
-    (write_kept (parts t) c.args.s c.in-Some.i c.args.e c.in-Some-hold_of.k c.args.text.now p.0 q.0 (kept t) p.1 q.1 c.if-e-self.false c.if-text-gt-LONGEST_TEXT.false))
+    let p = c.in_ok-i.ensures in
+    let i = c.in_ok-i.i in
+    let x = c.in_ok-i.session.now in
+    let a = writing t c.args.s c.args.e i c.in_ok-k.k x c.in_ok-k.hold p c.if-e-self.false c.found.ensures.is c.found.ensures.value c.in_ok-k.ensures.ok_part in
+    let same = the_same (parts t) c.args.s i x _ p.1 p.2 c.in-Some.is in
+    ghosts (kept_with (parts t) i (written_as c.in_ok-text.text a same c.keep.ensures) (write_kept c.in_ok-text.text a))
 
-pub returns : goal.returns
-returns g c =
+pub returns-in-Some : goal.returns-in-Some
+returns-in-Some g c =
     let t = c.args.self.now in
-    record {
-      rule =
-          λ live image n.
-          let h : c.args.e < length live = omega (arith, n, c.if-e-self.false) in
-          step_with g.K.Modes.kind (parts t) (write c.args.s c.args.e c.args.text.now) done live image c.in-Some.i c.keep.ensures
-          (write_done g.K.Modes.kind (parts t) live image c.args.s c.args.e c.args.text.now c.in-Some.i c.in-Some-hold_of.k c.in-Some.ensures.1 h
-          c.in-Some-hold_of.ensures.1 (sym c.if-not-writes.ensures) c.if-text-gt-LONGEST_TEXT.false);
-      same = refl;
-    }
+    let p = c.in_ok-i.ensures in
+    let i = c.in_ok-i.i in
+    let x = c.in_ok-i.session.now in
+    let a = writing t c.args.s c.args.e i c.in_ok-k.k x c.in_ok-k.hold p c.if-e-self.false c.found.ensures.is c.found.ensures.value c.in_ok-k.ensures.ok_part in
+    let same = the_same (parts t) c.args.s i x _ p.1 p.2 c.in-Some.is in (
+      refl,
+      λ live image n.
+          step_with g.K.Modes.kind (parts t) (write c.args.s c.args.e c.args.text.now) done live image i (written_as c.in_ok-text.text a same c.keep.ensures)
+          (write_done g.K.Modes.kind live image c.in_ok-text.text (writing_for live n a) (sym c.if-not-writes.ensures) c.in_ok-text.ensures),
+    )
+
+-- the place is not free
+pub returns-in_default : goal.returns-in_default
+returns-in_default g c =
+    let p = c.in_ok-i.ensures in
+    not_free session_number c.args.self.now.sessions c.args.s c.in_ok-i.i _ p.1 c.in_default.is

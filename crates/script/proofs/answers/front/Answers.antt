@@ -1,7 +1,0 @@
--- Where there are no more than n bytes, all of them are the first n.
-use Rattle.std.proofs.Common.{rules}
-use Rattle.std.proofs.lemmas.List.{take_all}
-use Rattle.script.proofs.answers.front.Goals as goal
-
-pub returns-else-n-bytes : goal.returns-else-n-bytes
-returns-else-n-bytes c = search (rules, take_all)
