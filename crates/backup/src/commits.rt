@@ -28,7 +28,7 @@ fn put_holds<S: Store>(to: &mut S, holds: &[Option<Hold>], hand: u32)
     requires { hand ≤ 4000000000 }
     ensures { S.Readable.table to.new ≡ put_holds hand holds.now (S.Readable.table to.old) }
 {
-    // not `flatten`: it leaves goals on its inner iterator that no short answer closes
+    // not `flatten`: the loop's invariant would be about its inner and its outer iterator
     for place in holds {
         if let Some(hold) = place {
             put_hold(to, hold, hand);
