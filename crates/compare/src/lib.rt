@@ -33,10 +33,9 @@ pub fn compare_tables<L: Readable, R: Readable>(left: &L, right: &R) -> Comparis
     if count != right.count() {
         return Comparison::CountsDiffer;
     }
-    match (0..count).find(|e| !same_entry(left, right, *e)) {
-        Some(e) => Comparison::Entry(e),
-        None => Comparison::Same,
-    }
+    (0..count)
+        .find(|e| !same_entry(left, right, *e))
+        .map_or(Comparison::Same, Comparison::Entry)
 }
 
 // Tells whether an entry that both tables have is the same in both.

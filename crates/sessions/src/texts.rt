@@ -33,6 +33,7 @@ impl SessionTable {
         if !kinds.reads(hold.mode) {
             return Err(Refusal::NotReading);
         }
+        // a match, each arm of which says its answer; `map` and `transpose` would hide the buffer in a closure
         match &hold.written {
             Some(text) => fill_front(buf, text.as_bytes()).map(Some),
             None => Ok(None),
