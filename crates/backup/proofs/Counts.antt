@@ -12,7 +12,7 @@ use Rattle.rules.specs.Office.{is_before, Office, session, mode_at, Call, begin,
 use Rattle.rules.specs.Rules.{wanted, next_of, declines, perform, decided, step, Step, committed_entry, after_leave, after_claim, after_commit, after_copy, after_work}
 use Rattle.rules.proofs.Declined.{none_fit}
 use Rattle.rules.proofs.Entries.{length_each}
-use Rattle.sessions.specs.View.{view, ByRule}
+use Rattle.sessions.specs.View.{view, ByRule, ByRules}
 use Rattle.sessions.specs.declared.table.SessionTable.{SessionTable}
 use Rattle.backup.specs.Serving.{Kept}
 
@@ -72,3 +72,8 @@ pub kept_by_sessions : (K : Kind) (t t' : SessionTable) (live image : Table) (c 
     → Kept t'.entries (view t' live image)
 kept_by_sessions K t t' live image c a kept rule =
     kept_by_rule K t.entries t'.entries (view t live image) (view t' live image) c a kept rule.0 (rule.1 live image kept.0)
+
+-- the same of a call that keeps to the rules of every kind
+pub kept_by_all : (K : Kind) (t t' : SessionTable) (live image : Table) (c : Call) (a : Answer) → Kept t.entries (view t live image) → ByRules t c a t'
+    → Kept t'.entries (view t' live image)
+kept_by_all K t t' live image c a kept rules = kept_by_sessions K t t' live image c a kept (rules.0, λ l i n. rules.1 l i n K)

@@ -1,10 +1,10 @@
 use Rattle.rules.specs.Office.{drop_round}
 use Rattle.sessions.specs.Answers.{did}
-use Rattle.backup.proofs.Counts.{kept_by_sessions}
+use Rattle.backup.proofs.Counts.{kept_by_all}
 use Rattle.backup.proofs.office.OfficeServes.drop.Goals as goal
 
 -- what the rule leaves is kept
 pub invariant_of-self : goal.invariant_of-self
 invariant_of-self g c =
     let o = c.args.self.now in
-    record { kept = kept_by_sessions g.K.Modes.kind o.sessions c.drop_round.new.self (g.L.Readable.table o.live) (g.I.Readable.table o.image) drop_round (did c.drop_round.result) o.kept (let r = c.drop_round.ensures in (r.0, λ l i n. r.1 l i n g.K.Modes.kind)) }
+    record { kept = kept_by_all g.K.Modes.kind o.sessions c.drop_round.new.self (g.L.Readable.table o.live) (g.I.Readable.table o.image) drop_round (did c.drop_round.result) o.kept c.drop_round.ensures }
