@@ -41,6 +41,14 @@ free_places number l = ap (λ p. position p l) (fun_ext (λ x. go x))
     go None = refl
     go (Some x) = refl
 
+-- a place is taken where it has one
+pub taken_places : {T : Type 0} (number : T → ℕ) (l : List (Option T)) → list_any (λ x. is_some (key_of number x)) l ≡ list_any is_some l
+taken_places number l = ap (λ p. list_any p l) (fun_ext (λ x. go x))
+  where
+    go : (x : Option _) → is_some (key_of number x) ≡ is_some x
+    go None = refl
+    go (Some x) = refl
+
 -- a function of a choice
 pub ap_cond : {A B : Type 0} (f : A → B) (b : Bool) (x y : A) → f (cond b x y) ≡ cond b (f x) (f y)
 ap_cond f true x y = refl

@@ -1,5 +1,5 @@
 -- Claim.
-use Rattle.std.proofs.Common.{IfSome, ◌≡◌, ℕ, ◌<◌, Bool, true, false, cond, not, ◌&&◌, eqb, leb, length, get_or, is_some, is_none, Some, None, Ok, Err, Option, Result, is_ok, unwrap_or, option_map, sym, refl, ap, ◌∙◌, subst, inl, inr, true≢false, arith}
+use Rattle.std.proofs.Common.{IfSome, ◌≡◌, ℕ, ◌<◌, Bool, true, false, cond, not, ◌&&◌, eqb, leb, length, get_or, set, is_some, is_none, Some, None, Ok, Err, Option, Result, List, is_ok, unwrap_or, option_map, sym, refl, ap, ◌∙◌, subst, inl, inr, true≢false, arith}
 use Rattle.std.specs.Option.{option_map_or}
 use Rattle.std.proofs.lemmas.List.{length-set}
 use Rattle.std.proofs.lemmas.Bool.{le-leb, lt-leb, lt-ltb, eqb-true}
@@ -28,7 +28,7 @@ use Rattle.sessions.specs.declared.session.Side.TheVariants.{Before, After}
 use Rattle.sessions.proofs.Begins.{some_mapped}
 use Rattle.sessions.proofs.Ext.{session_ext}
 use Rattle.sessions.proofs.HoldPlaces.{place_cases, place_none, find_granted, distinct_granted, text_granted}
-use Rattle.sessions.proofs.Parts.{Parts, parts, seen, Kept, kept, with_place, At, Has}
+use Rattle.sessions.proofs.Parts.{Parts, parts, seen, Kept, kept, with_place, At, Has, stands}
 use Rattle.sessions.proofs.Places.{number_of_session, seen_changed, seen_ended, session_at, is_at}
 use Rattle.sessions.proofs.Sound.{sound_of, changed_kept}
 use Rattle.sessions.proofs.Steps.{Falls, refusing, performing, is_below, hit, pass, over}
@@ -285,10 +285,13 @@ claim_kept {n = n} {d = d} {s = s} {e = e} {i = i} {k = k} {w = w} {x = x} t a =
       below = every_set (λ x. under n (hold_key x)) l k (Some y) (lt-ltb e n a.entry) g.below;
     })
 
--- the session that the code leaves in place i, where it was x
-pub granted_as : {K : Kind} {n : ℕ} {d : Parts} {s e m i k w : ℕ} {x : Session} (t : Option Side) {y z : Session} → Asked K n d s e m i k w x → y ≡ x
-    → z ≡ with_hold y k (granted_hold (get_or y.holds k None) e w) t → Some z ≡ Some (with_hold x k (granted_hold (get_or x.holds k None) e w) t)
-granted_as {e = e} {k = k} {w = w} t a q r = ap Some (r ∙ ap (λ y. with_hold y k (granted_hold (get_or y.holds k None) e w) t) q)
+-- the sessions that the code leaves, where x stands in place i
+pub granted_as : {K : Kind} {n : ℕ} {d : Parts} {s e m i k w : ℕ} {x : Session} (t : Option Side) {l : List (Option Session)} → Asked K n d s e m i k w x
+    → l ≡ set d.sessions i (option_map (λ y. with_hold y k (granted_hold (get_or y.holds k None) e w) t) (get_or d.sessions i None))
+    → l ≡ set d.sessions i (Some (with_hold x k (granted_hold (get_or x.holds k None) e w) t))
+granted_as {d = d} {s = s} {e = e} {i = i} {k = k} {w = w} {x = x} t a r =
+    r
+    ∙ ap (λ o. set d.sessions i (option_map (λ y. with_hold y k (granted_hold (get_or y.holds k None) e w) t) o)) (stands d s i x a.named a.session)
 
 -- the place for a hold is one of the eight
 pub place_below : (t : SessionTable) (s k : ℕ) (x : Session) {r : Option ℕ} → Has (parts t) s x → IfSome r (λ k. k < length x.holds) → r ≡ Some k → k < 8

@@ -7,7 +7,6 @@ use Rattle.modes.specs.Kind.{Kind}
 use Rattle.rules.specs.Office.{Office, Call, Answer}
 use Rattle.rules.specs.Rules.{Step}
 use Rattle.keyed.specs.Keyed.{is_key, held, count_taken, distinct, all_under}
-use Rattle.rules.proofs.Tests.{same_value}
 use Rattle.sessions.specs.Sessions.{session_number, session_key, sound_place}
 use Rattle.sessions.specs.View.{session_of}
 use Rattle.sessions.specs.declared.session.Session.{Session}
@@ -121,14 +120,15 @@ stands d s i x p h = sym (held_at session_number d.sessions s i None p) ∙ h
 abbrev pub Free : Parts → ℕ → Type 0
 Free d i = position is_none d.sessions ≡ Some i
 
--- what stands in place i, as an equation gives it
-pub step_with : (K : Kind) (d : Parts) (c : Call) (a : Answer) (live image : Table) (i : ℕ) {x y : Option Session} → y ≡ x
-    → Step K (seen d live image) c a (seen (with_place d i x) live image) → Step K (seen d live image) c a (seen (with_place d i y) live image)
-step_with K d c a live image i e h = subst (λ z. Step K (seen d live image) c a (seen (with_place d i z) live image)) (sym e) h
+-- other sessions
+abbrev pub with_sessions : Parts → List (Option Session) → Parts
+with_sessions d l = record { sessions = l; next = d.next; hand = d.hand; round = d.round; copied = d.copied }
 
-pub kept_with : {n : ℕ} (d : Parts) (i : ℕ) {x y : Option Session} → y ≡ x → Kept n (with_place d i x) → Kept n (with_place d i y)
-kept_with {n} d i e h = subst (λ z. Kept n (with_place d i z)) (sym e) h
+-- the sessions with another one in place i, as an equation gives them
+pub step_with : (K : Kind) (d : Parts) (c : Call) (a : Answer) (live image : Table) (i : ℕ) (x : Option Session) {l : List (Option Session)} → l ≡ set d.sessions i x
+    → Step K (seen d live image) c a (seen (with_place d i x) live image) → Step K (seen d live image) c a (seen (with_sessions d l) live image)
+step_with K d c a live image i x e h = subst (λ l. Step K (seen d live image) c a (seen (with_sessions d l) live image)) (sym e) h
 
--- what stands in its place is that session
-pub the_same : (d : Parts) (s i : ℕ) (x : Session) {y : Session} (o : Option Session) → At d s i → Has d s x → get_or d.sessions i o ≡ Some y → y ≡ x
-the_same d s i x o p h q = same_value (held_at session_number d.sessions s i o p ∙ q) h
+pub kept_with : {n : ℕ} (d : Parts) (i : ℕ) (x : Option Session) {l : List (Option Session)} → l ≡ set d.sessions i x → Kept n (with_place d i x)
+    → Kept n (with_sessions d l)
+kept_with {n} d i x e h = subst (λ l. Kept n (with_sessions d l)) (sym e) h

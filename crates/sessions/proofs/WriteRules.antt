@@ -1,5 +1,5 @@
 -- Write.
-use Rattle.std.proofs.Common.{◌≡◌, ℕ, ◌<◌, ◌≤◌, true, cond, eqb, length, get_or, Some, None, sym, ap, ◌∙◌, subst, inl, inr, Option, List, arith, option_map, position}
+use Rattle.std.proofs.Common.{◌≡◌, ℕ, ◌<◌, ◌≤◌, true, cond, eqb, length, get_or, set, Some, None, sym, ap, ◌∙◌, subst, inl, inr, Option, List, arith, option_map, position}
 use Rattle.std.specs.Borrow.{Bor}
 use Rattle.std.proofs.lemmas.List.{length-set}
 use Rattle.std.proofs.lemmas.Bool.{le-ltb, lt-ltb}
@@ -23,7 +23,7 @@ use Rattle.sessions.specs.declared.table.SessionTable.{SessionTable}
 use Rattle.sessions.proofs.Ext.{session_ext}
 use Rattle.sessions.proofs.HoldPlaces.{HeldIn}
 use Rattle.sessions.proofs.Modes.{entry_of, holds_in}
-use Rattle.sessions.proofs.Parts.{Parts, parts, seen, Kept, with_place, At, Has, kept}
+use Rattle.sessions.proofs.Parts.{Parts, parts, seen, Kept, with_place, At, Has, stands, kept}
 use Rattle.sessions.proofs.Places.{number_of_session, seen_changed, session_at, is_at}
 use Rattle.sessions.proofs.Sound.{sound_of, changed_kept}
 use Rattle.sessions.proofs.Steps.{performing, is_below, pass, over}
@@ -94,13 +94,14 @@ write_kept {n} {d} {s} {e} {i} {k} {x} {h} t a =
       below = every_set (λ x. under n (hold_key x)) l k (Some y) (ap (under n) ky ∙ lt-ltb e n a.entry) g.below;
     })
 
--- the session that the code leaves in place i, where it was x
-pub written_as : {n : ℕ} {d : Parts} {s e i k : ℕ} {x : Session} {h : Hold} (t : Text) {y z : Session} → Writing n d s e i k x h → y ≡ x
-    → z ≡ with_hold y k (written_hold (get_or y.holds k None) t) y.side → Some z ≡ Some (written x k h t)
-written_as {e = e} {k = k} {x = x} t a q r =
-    ap Some
-    (r ∙ ap (λ y. with_hold y k (written_hold (get_or y.holds k None) t) y.side) q
-    ∙ ap (λ o. with_hold x k (written_hold o t) x.side) (sym (held_at hold_entry x.holds e k None a.place) ∙ a.hold))
+-- the sessions that the code leaves, where x stands in place i
+pub written_as : {n : ℕ} {d : Parts} {s e i k : ℕ} {x : Session} {h : Hold} (t : Text) {l : List (Option Session)} → Writing n d s e i k x h
+    → l ≡ set d.sessions i (option_map (λ y. with_hold y k (written_hold (get_or y.holds k None) t) y.side) (get_or d.sessions i None))
+    → l ≡ set d.sessions i (Some (written x k h t))
+written_as {d = d} {s = s} {e = e} {i = i} {k = k} {x = x} t a r =
+    r
+    ∙ ap (λ o. set d.sessions i (option_map (λ y. with_hold y k (written_hold (get_or y.holds k None) t) y.side) o)) (stands d s i x a.named a.session)
+    ∙ ap (λ o. set d.sessions i (Some (with_hold x k (written_hold o t) x.side))) (sym (held_at hold_entry x.holds e k None a.place) ∙ a.hold)
 
 -- from the checks of a write
 pub writing : (t : SessionTable) (s e i k : ℕ) (x : Session) {r : Option (ℕ × Bor Hold)} (h : Bor Hold) → (i < length t.sessions) × At (parts t) s i × Has (parts t) s x

@@ -4,7 +4,7 @@ ghost use Rattle.keyed.specs.Keyed.{any_held};
 ghost use Rattle.sessions.specs.View.{ByRule, conflicting};
 ghost use Rattle.sessions.specs.Answers.{did};
 
-use super::session::Session;
+use super::session::{Session, grant_at};
 use super::table::SessionTable;
 use modes::Modes;
 use tables::Refusal;
@@ -44,9 +44,7 @@ impl SessionTable {
         }
         match session.side_then(self.round, self.copied[e]) {
             Ok(side) => {
-                if let Some(session) = &mut self.sessions[i] {
-                    session.grant(k, e, wanted, side);
-                }
+                grant_at(&mut self.sessions, i, k, e, wanted, side);
                 Ok(())
             }
             Err(refusal) => {

@@ -4,7 +4,7 @@ use keyed::Numbered;
 use tables::Text;
 
 // An entry that a session holds, the mode that it holds it in, and the text that it wrote to it, if it did.
-#[derive(Drop)]
+#[derive(Clone, Copy)]
 pub struct Hold {
     pub entry: usize,
     pub mode: u8,

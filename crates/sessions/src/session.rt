@@ -1,4 +1,4 @@
-ghost use Rattle.std.specs.Prelude.{◌≡◌, ◌<◌, length, is_some, IfSome, slice_index_or, None, Some};
+ghost use Rattle.std.specs.Prelude.{◌≡◌, ◌<◌, length, is_some, IfSome, slice_index_or, slice_set, option_map, None, Some};
 ghost use Rattle.std.specs.List.{list_any};
 ghost use Rattle.keyed.specs.Keyed.{held, any_held};
 ghost use Rattle.rules.specs.Rules.{wanted as wants};
@@ -22,7 +22,7 @@ pub(crate) enum Side {
 }
 
 // A session: its number, its side in the round, if it has one, and its holds.
-#[derive(Drop)]
+#[derive(Clone, Copy)]
 pub(crate) struct Session {
     pub(crate) number: usize,
     pub(crate) side: Option<Side>,
@@ -72,6 +72,7 @@ impl Session {
     }
 
     // Where its hold of the entry stands, or else can stand.
+    #[tactic(auto, using(keyed::proofs::Held::free_places))]
     pub(crate) fn hold_place(&self, e: usize) -> Option<usize>
         ensures is { result ≡ hold_place self.now.holds e }
         ensures within { IfSome result (λ k. k < length self.now.holds) }
@@ -109,7 +110,7 @@ impl Session {
         requires { k < 8 }
         ensures { self.new ≡ with_hold self.old k (granted_hold (slice_index_or self.old.holds k None) e mode) side }
     {
-        let own = self.holds[k].take().filter(|hold| hold.entry == e);
+        let own = self.holds[k].filter(|hold| hold.entry == e);
         self.holds[k] = Some(Hold {
             entry: e,
             mode,
@@ -137,9 +138,40 @@ impl Session {
 
     // Takes the side that it has as a round opens, which is Before if it holds an entry, or as one ends, which is none. One
     // formula over the round's state: two calls would be twins.
+    #[tactic(auto, using(keyed::proofs::Held::taken_places))]
     pub(crate) fn renew_side(&mut self, round: bool)
         ensures { self.new ≡ with_new_side round self.old }
     {
         self.side = (round && occupied(&self.holds)).then_some(Side::Before);
+    }
+}
+
+// Lends the session in place i, which then holds the entry in the mode, in hold k, and takes the side. Here and below the array
+// is asked for and not its place, since the borrow checker makes no plan for a place that the table itself lends.
+pub(crate) fn grant_at(
+    sessions: &mut [Option<Session>],
+    i: usize,
+    k: usize,
+    e: usize,
+    mode: u8,
+    side: Option<Side>,
+)
+    requires place { i < length sessions.old }
+    requires hold { k < 8 }
+    ensures { sessions.new ≡ slice_set sessions.old i (option_map (λ x. with_hold x k (granted_hold (slice_index_or x.holds k None) e mode) side) (slice_index_or sessions.old i None)) }
+{
+    if let Some(session) = &mut sessions[i] {
+        session.grant(k, e, mode, side);
+    }
+}
+
+// Lends the session in place i, which then keeps a text with hold k.
+pub(crate) fn keep_at(sessions: &mut [Option<Session>], i: usize, k: usize, text: Text)
+    requires place { i < length sessions.old }
+    requires hold { k < 8 }
+    ensures { sessions.new ≡ slice_set sessions.old i (option_map (λ x. with_hold x k (written_hold (slice_index_or x.holds k None) text) x.side) (slice_index_or sessions.old i None)) }
+{
+    if let Some(session) = &mut sessions[i] {
+        session.keep(k, text);
     }
 }

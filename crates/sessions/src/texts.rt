@@ -5,6 +5,7 @@ ghost use Rattle.rules.specs.Rules.{Step};
 ghost use Rattle.sessions.specs.View.{view, WithTables, ByRule};
 ghost use Rattle.sessions.specs.Answers.{did, own_answer, BufferKept};
 
+use super::session::keep_at;
 use super::table::SessionTable;
 use keyed::found;
 use modes::Modes;
@@ -59,9 +60,7 @@ impl SessionTable {
             return Err(Refusal::NotWriting);
         }
         let text = Text::try_from(text)?;
-        if let Some(session) = &mut self.sessions[i] {
-            session.keep(k, text);
-        }
+        keep_at(&mut self.sessions, i, k, text);
         Ok(())
     }
 }

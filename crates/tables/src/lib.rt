@@ -2,7 +2,7 @@
 //
 // Job: the one refusal type, stamps, texts, the trait of tables that can be read, the trait of stores that can
 // also be written, and the filling of a caller's buffer.
-// May use: std, and arrayvec for texts. Every crate that speaks of tables uses this one.
+// May use: std alone. Every crate that speaks of tables uses this one.
 // Main promise: whatever implements the traits answers as its table says, and refuses only where, and by the
 // number that, the rules name.
 

@@ -1,14 +1,17 @@
-ghost use Rattle.std.specs.Prelude.{◌≡◌, ◌<◌, ◌≤◌, [], length};
+ghost use Rattle.std.specs.Prelude.{◌≡◌, ◌<◌, ◌≤◌, [], length, take};
 
 use super::LONGEST_TEXT;
+use super::buffer::fill_front;
 use super::refusal::Refusal;
-use arrayvec::ArrayVec;
 
-// A text of at most 96 bytes, kept in place.
-#[derive(Drop)]
+// A text of at most 96 bytes, kept in place: it stands in the first `len` of its bytes. An array with a length beside it
+// and no `ArrayVec`, which is not `Copy`: a text is copied, and so is what has one.
+#[derive(Clone, Copy)]
 pub struct Text {
-    bytes: ArrayVec<u8, LONGEST_TEXT>,
-    ghost short: { length bytes.items ≤ 96 },
+    bytes: [u8; LONGEST_TEXT],
+    len: usize,
+    ghost short: { length (take len bytes) ≤ 96 },
+    ghost within: { len ≤ length bytes },
 }
 
 impl Text {
@@ -18,7 +21,7 @@ impl Text {
     pub fn as_bytes(&self) -> &[u8]
         ensures { result.now ≡ bytes_of self.now }
     {
-        self.bytes.as_slice()
+        &self.bytes[..self.len]
     }
 }
 
@@ -30,7 +33,8 @@ impl Default for Text {
 
     fn default() -> Text {
         Text {
-            bytes: ArrayVec::new(),
+            bytes: [0; LONGEST_TEXT],
+            len: 0,
         }
     }
 }
@@ -43,8 +47,9 @@ impl TryFrom<&[u8]> for Text {
 
     ghost try_from_gives = { λ s r. TextOf s.now r };
 
-    fn try_from(bytes: &[u8]) -> Result<Text, Refusal> {
-        let bytes = ArrayVec::try_from(bytes).map_err(|_| Refusal::LongText)?;
-        Ok(Text { bytes })
+    fn try_from(text: &[u8]) -> Result<Text, Refusal> {
+        let mut bytes = [0; LONGEST_TEXT];
+        let len = fill_front(&mut bytes, text).map_err(|_| Refusal::LongText)?;
+        Ok(Text { bytes, len })
     }
 }

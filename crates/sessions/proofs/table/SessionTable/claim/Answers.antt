@@ -5,11 +5,9 @@ use Rattle.tables.specs.declared.refusal.Refusal.TheVariants.{HoldsFull, Ended}
 use Rattle.rules.specs.Office.{claim, refused, done}
 use Rattle.rules.specs.Rules.{Step}
 use Rattle.sessions.specs.Answers.{did}
-use Rattle.keyed.proofs.Held.{not_free}
-use Rattle.sessions.specs.Sessions.{session_number}
 use Rattle.sessions.proofs.ClaimRules.{asked, asked_for, place_below, granted_as, claim_kept, claim_full, claim_conflict, claim_paused, claim_ended, claim_done}
 use Rattle.sessions.proofs.Leaves.{ended_kept}
-use Rattle.sessions.proofs.Parts.{parts, seen, with_place, kept, kept_for, ghosts, step_with, kept_with, the_same}
+use Rattle.sessions.proofs.Parts.{parts, seen, with_place, kept, kept_for, ghosts, step_with, kept_with}
 use Rattle.sessions.proofs.table.SessionTable.claim.Goals as goal
 
 pub returns-in_err-k : goal.returns-in_err-k
@@ -35,8 +33,8 @@ returns-then-conflicts g c =
     p c.if-e-self.false m c.hold_place.ensures.is c.in_ok-k.ensures.ok_part c.wanted-wanted.ensures in
     (refl, λ live image n. claim_conflict live image (asked_for live n a) c.if-conflicts.ensures)
 
-pub grant-requires : goal.grant-requires
-grant-requires g c =
+pub grant_at-requires-clause-hold : goal.grant_at-requires-clause-hold
+grant_at-requires-clause-hold g c =
     place_below c.args.self.now c.args.s c.in_ok-k.k c.in_ok-i.session.now c.in_ok-i.ensures.2 c.hold_place.ensures.within c.in_ok-k.ensures.ok_part
 
 pub invariant_of-self : goal.invariant_of-self
@@ -47,29 +45,21 @@ invariant_of-self g c =
     let m : c.args.m < K.modes = omega (arith, c.modes.ensures, c.if-m-modes.false) in
     let a = asked K t c.args.s c.args.e c.args.m c.in_ok-i.i c.in_ok-k.k c.wanted-wanted.result c.in_ok-i.session.now
     p c.if-e-self.false m c.hold_place.ensures.is c.in_ok-k.ensures.ok_part c.wanted-wanted.ensures in
-    let same = the_same (parts t) c.args.s c.in_ok-i.i c.in_ok-i.session.now _ p.1 p.2 c.in-Some.is in
-    ghosts (kept_with (parts t) c.in_ok-i.i (granted_as c.in-Ok.side a same c.grant.ensures) (claim_kept c.in-Ok.side a))
+    ghosts (kept_with (parts t) c.in_ok-i.i _ (granted_as c.in-Ok.side a c.grant_at.ensures) (claim_kept c.in-Ok.side a))
 
-pub returns-in-Some : goal.returns-in-Some
-returns-in-Some g c =
+pub returns-in-Ok : goal.returns-in-Ok
+returns-in-Ok g c =
     let K = g.K.Modes.kind in
     let t = c.args.self.now in
     let p = c.in_ok-i.ensures in
     let m : c.args.m < K.modes = omega (arith, c.modes.ensures, c.if-m-modes.false) in
     let a = asked K t c.args.s c.args.e c.args.m c.in_ok-i.i c.in_ok-k.k c.wanted-wanted.result c.in_ok-i.session.now
-    p c.if-e-self.false m c.hold_place.ensures.is c.in_ok-k.ensures.ok_part c.wanted-wanted.ensures in
-    let same = the_same (parts t) c.args.s c.in_ok-i.i c.in_ok-i.session.now _ p.1 p.2 c.in-Some.is in (
+    p c.if-e-self.false m c.hold_place.ensures.is c.in_ok-k.ensures.ok_part c.wanted-wanted.ensures in (
       refl,
       λ live image n.
-          step_with K (parts t) (claim c.args.s c.args.e c.args.m) done live image c.in_ok-i.i (granted_as c.in-Ok.side a same c.grant.ensures)
+          step_with K (parts t) (claim c.args.s c.args.e c.args.m) done live image c.in_ok-i.i _ (granted_as c.in-Ok.side a c.grant_at.ensures)
           (claim_done live image (asked_for live n a) c.in-Ok.side c.conflicts.ensures c.if-conflicts.false c.in-Ok.ensures),
     )
-
--- the place is not free
-pub returns-in_default : goal.returns-in_default
-returns-in_default g c =
-    let p = c.in_ok-i.ensures in
-    not_free session_number c.args.self.now.sessions c.args.s c.in_ok-i.i _ p.1 c.in_default.is
 
 pub invariant_of-self-then-eq : goal.invariant_of-self-then-eq
 invariant_of-self-then-eq g c =
