@@ -1,6 +1,6 @@
 -- The numbers that stand in bytes, and the rows, are coded by those bytes.
 use Rattle.std.proofs.Common.{◌≡◌, ℕ, zero, suc, ◌+◌, ◌<◌, ◌≤◌, List, ◌++◌, length, get_or, take, drop, sym, ap, ◌∙◌, subst, arith, take-add}
-use Rattle.std.proofs.lemmas.List.{drop_more, drop-drop, length-take-le, length-drop}
+use Rattle.std.proofs.lemmas.List.{drop_more, drop-drop, drop-take, take-take, length-take-le, length-drop}
 use Rattle.std.specs.Int.{w32, from_be_bytes}
 use Rattle.std.specs.Int.Digits.{number_from_digits, AllBelowBase}
 use Rattle.imageformat.specs.Format.{bytes, row, number_at}
@@ -27,6 +27,16 @@ pub four_read : (bs : List ℕ) (at n : ℕ) (part : List ℕ) → (at + 4 ≤ l
 four_read bs at n part (within, is) e =
     let long : length part ≡ 4 = ap length is ∙ length-take-le 4 (drop at bs) (simp length-drop (omega arith)) in
     e ∙ four_number part long ∙ ap (number_from_digits 256) is
+
+-- a field of the fourteen bytes at a place is the one that stands so far behind the place
+pub in_row : (bs : List ℕ) (at p k m : ℕ) (part : List ℕ) → p + m ≡ 14 → k ≤ m → part ≡ take 14 (drop at bs) → number_at k p part ≡ number_at k (at + p) bs
+in_row bs at p k m part e h is =
+    ap (number_from_digits 256)
+    (ap (λ w. take k (drop p w)) is
+    ∙ ap (λ n. take k (drop p (take n (drop at bs)))) (sym e)
+    ∙ ap (take k) (drop-take p m (drop at bs))
+    ∙ take-take k m (drop p (drop at bs)) h
+    ∙ ap (take k) (drop-drop p at bs))
 
 module _ (bs : List ℕ) (small : (i : ℕ) → get_or bs i 0 < 256) where
   -- so many bytes at a place are bytes

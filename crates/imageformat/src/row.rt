@@ -33,11 +33,18 @@ pub fn head_bytes(count: u16) -> [u8; HEAD_BYTES]
     [v[0], v[1], n[0], n[1]]
 }
 
+// The part of `N` bytes at `at`, if so many stand there.
+fn part_at<const N: usize>(bytes: &[u8], at: usize) -> Option<&[u8; N]>
+    ensures { MatchOption result (length bytes.now < at + N) (λ part. (at + N ≤ length bytes.now) × (part.now ≡ take N (drop at bytes.now))) }
+{
+    bytes.get(at..)?.first_chunk()
+}
+
 // The `N` bytes at `at`, if so many stand there.
 fn bytes_at<const N: usize>(bytes: &[u8], at: usize) -> Option<[u8; N]>
     ensures { MatchOption result (length bytes.now < at + N) (λ part. (at + N ≤ length bytes.now) × (part ≡ take N (drop at bytes.now))) }
 {
-    bytes.get(at..)?.first_chunk().copied()
+    part_at(bytes, at).copied()
 }
 
 // The number in the two bytes at `at`.
@@ -64,11 +71,13 @@ impl Row {
     pub fn read(bytes: &[u8], at: usize) -> Option<Row>
         ensures { elim result [ Some w ↦ (at + 14 ≤ length bytes.now) × (w ≡ row_at bytes.now at) × (coded_row w.edition w.hand w.place w.length ≡ take 14 (drop at bytes.now)) | None ↦ length bytes.now < at + 14 ] }
     {
+        // of fourteen bytes it is known that each field stands in them
+        let row: &[u8; ROW_BYTES] = part_at(bytes, at)?;
         Some(Row {
-            edition: u32::from_be_bytes(bytes_at(bytes, at)?),
-            hand: u32::from_be_bytes(bytes_at(bytes, at + 4)?),
-            place: u32::from_be_bytes(bytes_at(bytes, at + 8)?),
-            length: u16_at(bytes, at + 12)?,
+            edition: u32::from_be_bytes(bytes_at(row, 0)?),
+            hand: u32::from_be_bytes(bytes_at(row, 4)?),
+            place: u32::from_be_bytes(bytes_at(row, 8)?),
+            length: u16_at(row, 12)?,
         })
     }
 }

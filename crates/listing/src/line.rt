@@ -6,7 +6,7 @@ ghost use Rattle.listing.specs.Listing.{entry_of, listed_line};
 ghost use Rattle.listing.specs.Shown.{line_fault_shown};
 ghost use Rattle.listing.specs.declared.line.LineFault.TheVariants.{Refused};
 
-use super::entry::Item;
+pub use super::entry::Item;
 use std::fmt;
 use tables::{LONGEST_TEXT, Refusal, Stamp};
 use words::{cut_at, number};

@@ -3,7 +3,6 @@ ghost use Rattle.words.specs.Lines.{lines};
 ghost use Rattle.listing.specs.Listing.{listed};
 ghost use Rattle.listing.specs.Faults.{bad_lines};
 
-use super::entries::Items;
 use super::line::{LineFault, parse_line};
 use std::alloc::{AllocError, Global};
 use words::Lines;
@@ -22,24 +21,18 @@ pub struct Survey {
     pub bad: Vec<BadLine>,
 }
 
-// Finds the lines of a listing that are passed over.
-fn find_bad_lines(heap: Global, listing: &[u8]) -> Result<Vec<BadLine>, AllocError>
-    ensures { IfOk result (λ v. v.items ≡ bad_lines 1 (lines listing.now)) }
-{
-    let mut bad = Vec::new(heap);
-    for (k, line) in Lines::new(listing).enumerate() {
-        if let Err(fault) = parse_line(line) {
-            bad.push(BadLine { line: k + 1, fault })?;
-        }
-    }
-    Ok(bad)
-}
-
-// Goes through a listing and counts its entries and its bad lines.
+// Goes through a listing once, and counts its entries and finds its bad lines. The entries are counted by hand: a second pass
+// would parse each line again.
 pub fn survey_listing(heap: Global, listing: &[u8]) -> Result<Survey, AllocError>
     ensures { IfOk result (λ s. (s.entries ≡ length (listed (lines listing.now))) × (s.bad.items ≡ bad_lines 1 (lines listing.now))) }
 {
-    let entries = Items::new(listing).count();
-    let bad = find_bad_lines(heap, listing)?;
+    let mut entries = 0;
+    let mut bad = Vec::new(heap);
+    for (k, line) in Lines::new(listing).enumerate() {
+        match parse_line(line) {
+            Ok(_) => entries += 1,
+            Err(fault) => bad.push(BadLine { line: k + 1, fault })?,
+        }
+    }
     Ok(Survey { entries, bad })
 }

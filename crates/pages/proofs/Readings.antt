@@ -1,7 +1,9 @@
 -- One page more of a chain is read: i pages are read, and the others are those from page p on.
-use Rattle.std.proofs.Common.{◌≡◌, ℕ, suc, ◌+◌, ◌-◌, ◌<◌, ◌≤◌, List, ◌∷◌, ◌++◌, map, sym, ap, ◌∙◌, arith}
+use Rattle.std.proofs.Common.{◌≡◌, ℕ, suc, ◌+◌, ◌-◌, ◌*◌, ◌<◌, ◌≤◌, List, ◌∷◌, ◌++◌, map, length, take, sym, ap, ◌∙◌, arith}
+use borrow.Rule.Slice.PartMut.{put_mid}
 use Rattle.std.specs.List.{flat_map}
 use Rattle.std.proofs.lemmas.List.{append_assoc}
+use Rattle.std.proofs.lemmas.Slice.{take-put_mid}
 use Rattle.pages.specs.declared.stock.Stock.{Stock}
 use Rattle.pages.specs.Chains.{page, linked, size, chain, times}
 use Rattle.pages.proofs.Frames.{times_here}
@@ -35,10 +37,13 @@ module _ (s : Stock) (e i p : ℕ) (l : e ≤ s.count) (more : i < size s.chains
   pub within_more : (q : ℕ) → times q (left s e (i + 1) next) ≤ times q (chain s.pages s.chains e)
   within_more q = let here = ap (times q) left_more in omega (arith, within q)
 
-  -- the block of p is put behind what is read
-  pub read_more : (text block all : List ℕ) → block ≡ (page s.pages p).bytes → text ++ bytes_of s (left s e i p) ≡ all → (text ++ block) ++ bytes_of s (left s e (i + 1) next) ≡ all
-  read_more text block all is so =
-      append_assoc text block (bytes_of s (left s e (i + 1) next))
-      ∙ ap (λ b. text ++ (b ++ bytes_of s (left s e (i + 1) next))) is
-      ∙ ap (λ y. text ++ bytes_of s y) (sym left_more)
+  -- the block of p is written after the i blocks in the text
+  pub read_more : (text block all : List ℕ) (k : ℕ) → length text ≡ 96 → i < 6 → block ≡ (page s.pages p).bytes → take (16 * i) text ++ bytes_of s (left s e i p) ≡ all → take (16 * (i + 1)) (put_mid (16 * i) k text block) ++ bytes_of s (left s e (i + 1) next) ≡ all
+  read_more text block all k long few is so =
+      let whole : length block ≡ 16 = ap length is ∙ s.whole p page_here in
+      let rest = bytes_of s (left s e (i + 1) next) in
+      ap (λ y. y ++ rest) (take-put_mid (16 * i) k text block (16 * (i + 1)) (omega arith) (omega arith))
+      ∙ append_assoc (take (16 * i) text) block rest
+      ∙ ap (λ b. take (16 * i) text ++ (b ++ rest)) is
+      ∙ ap (λ y. take (16 * i) text ++ bytes_of s y) (sym left_more)
       ∙ so

@@ -1,25 +1,24 @@
-ghost use Rattle.std.specs.Prelude.{◌≡◌, ◌*◌, ◌<◌, length};
+ghost use Rattle.std.specs.Prelude.{◌≡◌, ◌*◌, ◌<◌, take};
 ghost use Rattle.std.specs.List.{flat_map};
 ghost use Rattle.pages.specs.Chains.{size};
 ghost use Rattle.pages.specs.Blocks.{blocks};
 
+use super::page::PAGE;
 use super::stock::Stock;
-use arrayvec::ArrayVec;
 use tables::LONGEST_TEXT;
 
 impl Stock {
-    // The blocks of entry `e`, one after another.
-    pub(crate) fn read(&self, e: usize) -> ArrayVec<u8, LONGEST_TEXT>
+    // The blocks of entry `e`, one after another, at the front of an array: in an `ArrayVec` they took twice the time.
+    pub(crate) fn read(&self, e: usize) -> [u8; LONGEST_TEXT]
         requires { e < self.now.count }
-        ensures joined { result.items ≡ flat_map (λ x. x) (blocks self.now e) }
-        ensures long { length result.items ≡ 16 * size self.now.chains e }
+        ensures { take (16 * size self.now.chains e) result ≡ flat_map (λ x. x) (blocks self.now e) }
     {
         let chain = &self.chains[e];
-        let mut text = ArrayVec::new();
+        let mut text = [0; LONGEST_TEXT];
         let mut p = chain.first;
-        for _ in 0..chain.pages {
+        for i in 0..chain.pages {
             let page = &self.pages[p];
-            let _fits = text.try_extend_from_slice(&page.bytes);
+            text[PAGE * i..PAGE * i + PAGE].copy_from_slice(&page.bytes);
             p = page.next;
         }
         text

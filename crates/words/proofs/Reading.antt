@@ -1,48 +1,40 @@
--- A number that the library reads.
-use Rattle.std.proofs.Common.{◌≡◌, ℕ, ◌<◌, ◌≤◌, true, false, ◌&&◌, List, [], ◌∷◌, length, None, Ok, Err, Result, refl, ap, ⊎_elim, arith}
-use Rattle.std.specs.Result.{result_ok}
-use Rattle.std.specs.List.{list_all}
-use Rattle.std.specs.Char.{is_ascii_digit}
-use Rattle.std.specs.Str.{all_ascii_digits, IsAscii, IsUtf8}
-use Rattle.std.specs.Str.Parse.{digits_value, ParsesUnsigned}
-use Rattle.std.proofs.lemmas.Str.Parse.{IsNumeralModel, numerals_by_value, tells_all_ascii_digits, digits_value_short, parse_digits}
-use Rattle.std.proofs.lemmas.Bool.{and_parts, cases_lt}
-use Rattle.std.proofs.lemmas.Bool.Decides.{nat_tests}
-use Rattle.std.proofs.lemmas.Str.{IsUtf8-from_ascii}
-use Rattle.std.proofs.lemmas.Str.Ascii.{IsAscii-nil, IsAscii-cons}
+-- A number read digit by digit.
+use Rattle.std.proofs.Common.{◌≡◌, ℕ, zero, suc, ◌+◌, ◌*◌, ◌^◌, ◌<◌, ◌≤◌, true, List, [], ◌∷◌, length, get_or, take, Some, None, sym, ⊎_elim, zero-lt-suc, arith}
+use native.Mathlib.Nat.{pow-le-pow_right}
+use Rattle.std.specs.Str.Parse.{digits_value, AllDigits}
+use Rattle.std.specs.Char.{digit_value}
+use Rattle.std.proofs.lemmas.List.{length-take-le}
+use Rattle.std.proofs.lemmas.Int.Digits.{digits_value-lt}
+use Rattle.std.proofs.lemmas.Str.Parse.{IsNumeralModel, numerals_by_value, tells_all_ascii_digits}
+use Rattle.std.proofs.lemmas.Bool.{cases_Bool, cond-true, cond-false, and_from, and_left, lt-ltb, le-leb}
+use Rattle.std.specs.Str.{all_ascii_digits}
 use Rattle.words.specs.Numbers.{number_of}
+
+-- what fewer than nineteen digits write leaves room for one more
+pub room : (bs : List ℕ) (i n : ℕ) → i < length bs → length bs ≤ 19 → AllDigits 10 (take i bs) → n ≡ digits_value 10 (take i bs) → n * 10 + 9 < 2 ^ 64
+room bs i n h k d e =
+    let v = digits_value-lt 10 (take i bs) d in
+    let l = length-take-le i bs (omega arith) in
+    let m : i ≤ 18 = omega arith in
+    let p : 10 ^ i ≤ 10 ^ 18 = pow-le-pow_right (zero-lt-suc 9) m in
+    let w : digits_value 10 (take i bs) < 10 ^ i = rw l at v in
+    omega arith
+
+-- every byte of a numeral is a digit
+pub digit_in : (bs : List ℕ) (i : ℕ) → AllDigits 10 bs → i < length bs → digit_value (get_or bs i 0) < 10
+digit_in [] i d h = absurd (omega arith)
+digit_in (b ∷ bs) zero d h = d.0
+digit_in (b ∷ bs) (suc i) d h = digit_in bs i d.1 (omega arith)
 
 decimals : IsNumeralModel (λ ds. all_ascii_digits ds ≡ true) (digits_value 10)
 decimals = numerals_by_value _ tells_all_ascii_digits
 
--- the test of each byte is the test of the word
-pub all_digits : (w : List ℕ) → list_all is_ascii_digit w ≡ all_ascii_digits w
-all_digits [] = refl
-all_digits (b ∷ bs) = ap (λ t. is_ascii_digit b && t) (all_digits bs)
+-- one to nineteen digits write their number
+pub number_some : (w : List ℕ) → AllDigits 10 w → 0 < length w → length w ≤ 19 → Some (digits_value 10 w) ≡ number_of w
+number_some w d some few =
+    sym (cond-true _ (Some (digits_value 10 w)) None (and_from _ _ (decimals.from w d) (and_from _ _ (lt-ltb _ _ some) (le-leb _ _ few))))
 
--- one to nineteen digits write their number, and no digits none
-pub number_read : {E : Type 0} → (w : List ℕ) (r : Result ℕ E) → ParsesUnsigned 64 10 w r → all_ascii_digits w ≡ true → length w ≤ 19 → result_ok r ≡ number_of w
-number_read {E} w (Ok x) parses digits few = let h = parse_digits decimals {E = E} 64 w (Ok x) parses digits in grind (arith, nat_tests)
-number_read {E} w (Err e) parses digits few =
-    let h = parse_digits decimals {E = E} 64 w (Err e) parses digits in
-    let v = digits_value_short decimals w 19 digits few in
-    let none : length w ≡ 0 = ⊎_elim (λ (l : length w < 1). omega arith) (λ (l : 1 ≤ length w). absurd (h (l, omega arith))) (cases_lt (length w) 1) in
-    grind (arith, nat_tests)
-
--- a word with another byte, or with more of them, writes none
-pub number_none : (w : List ℕ) → all_ascii_digits w ≡ false → None ≡ number_of w
-number_none w other = simp other
-
-pub number_long : (w : List ℕ) → 19 < length w → None ≡ number_of w
-number_long w long = grind (arith, nat_tests)
-
--- digits are text
-digits_ascii : (w : List ℕ) → all_ascii_digits w ≡ true → IsAscii w
-digits_ascii [] digits = IsAscii-nil
-digits_ascii (b ∷ bs) digits = let p = and_parts (is_ascii_digit b) (all_ascii_digits bs) digits in IsAscii-cons b bs (grind (arith, nat_tests)) (digits_ascii bs p.1)
-
-pub digits_are_text : (w : List ℕ) → all_ascii_digits w ≡ true → IsUtf8 w
-digits_are_text w digits = IsUtf8-from_ascii w (digits_ascii w digits)
-
--- what the reading of a number rests on
-pub ruleset numerals = (number_read, number_none, number_long, digits_are_text)
+-- a word with another byte writes none
+pub number_none : (w : List ℕ) (i : ℕ) → i < length w → 10 ≤ digit_value (get_or w i 0) → None ≡ number_of w
+number_none w i h k =
+    sym (cond-false _ (Some (digits_value 10 w)) None (and_left _ _ (⊎_elim (λ e. let d = digit_in w i (decimals.to w e) h in absurd (omega arith)) (λ e. e) (cases_Bool (all_ascii_digits w)))))

@@ -6,7 +6,7 @@ use Rattle.imagesave.proofs.saving.write_table.Goals.{After-row}
 -- the row of an entry is taken, and one more is written
 row_done : (g : _) (c : After-row g) → (c.row.result ≡ Ok tt) × RowsSaved (g.R.Readable.table c.args.from.now) c.args.buf.now (c.loop-e.e + 1) c.row.new.self c.row.new.buf
 row_done g c =
-    row_saved (g.R.Readable.table c.args.from.now) c.args.buf.now c.loop-e.e c.loop-e.rows c.row.new.self c.loop-e.buf c.row.new.buf c.loop-e.text c.text.new.buf _ _ _ c.row.result (g.R.Readable.lawful c.args.from.now) (search rules) (search rules) c.in_ok-edition.ensures c.in_ok-length.ensures c.row.auto.buf c.loop-e.invariant c.row.ensures.answer c.row.ensures.meaning
+    row_saved (g.R.Readable.table c.args.from.now) c.args.buf.now c.loop-e.e c.loop-e.rows c.row.new.self c.loop-e.buf c.row.new.buf _ c.text.new.buf _ _ _ c.row.result (g.R.Readable.lawful c.args.from.now) (search rules) (search rules) c.in_ok-edition.ensures c.in_ok-length.ensures c.row.auto.buf c.loop-e.invariant c.row.ensures.answer c.row.ensures.meaning
 
 -- so it is not refused
 pub returns-in_err-row : goal.returns-in_err-row

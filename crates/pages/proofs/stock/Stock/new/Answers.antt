@@ -21,3 +21,6 @@ returns-clause-empty c =
     let ps = c.from_fn.result in
     let f : (p : ℕ) → p < 768 → page ps p ≡ fresh p = λ p l. let h = c.from_fn.ensures.items.at p no_page l in search rules in
     start_blocks ps c.args.n f c.requires
+
+pub returns-clause-zeros : goal.returns-clause-zeros
+returns-clause-zeros c = (c.from_fn.ensures.items.long, λ p l. let h = c.from_fn.ensures.items.at p no_page l in search rules)
