@@ -7,6 +7,12 @@ use super::faults::{FileFault, RowFault};
 use imageformat::{HEAD_BYTES, ROW_BYTES, Row, VERSION, u16_at};
 use tables::{LONGEST_TEXT, MOST_ENTRIES, Refusal, Stamp};
 
+// The greatest count that a file's head may say.
+const GREATEST_COUNT: usize = MOST_ENTRIES;
+
+// The greatest length that a row may say.
+const GREATEST_LENGTH: usize = LONGEST_TEXT;
+
 // Row `k` of a file, where the row stands.
 fn row_of(bytes: &[u8], k: usize) -> Row
     requires { 18 + 14 * k ≤ length bytes.now }
@@ -25,7 +31,7 @@ fn check_head(bytes: &[u8]) -> Result<usize, Refusal>
         return Err(Refusal::Version);
     }
     let count = usize::from(count);
-    if count > MOST_ENTRIES {
+    if count > GREATEST_COUNT {
         return Err(Refusal::CountHigh);
     }
     if bytes.len() < HEAD_BYTES + ROW_BYTES * count {
@@ -40,7 +46,7 @@ fn check_row(row: Row, place: usize) -> Result<usize, Refusal>
 {
     Stamp::new(row.edition, row.hand)?;
     let length = usize::from(row.length);
-    if length > LONGEST_TEXT {
+    if length > GREATEST_LENGTH {
         return Err(Refusal::RowLong);
     }
     // `as`, since usize has no From<u32>

@@ -10,9 +10,9 @@ unfolding Faulty
 returns-then-bytes-count c = kept (search rules) (kept (search rules) (kept (search rules) (broken (search rules) refl)))
 
 -- the third, and those before it are kept
-pub returns-then-count-gt-MOST_ENTRIES : goal.returns-then-count-gt-MOST_ENTRIES
+pub returns-then-count-gt-GREATEST_COUNT : goal.returns-then-count-gt-GREATEST_COUNT
 unfolding Faulty
-returns-then-count-gt-MOST_ENTRIES c = kept (search rules) (kept (search rules) (broken (search rules) refl))
+returns-then-count-gt-GREATEST_COUNT c = kept (search rules) (kept (search rules) (broken (search rules) refl))
 
 -- the second, and the first is kept
 pub returns-then-version-ne-VERSION : goal.returns-then-version-ne-VERSION

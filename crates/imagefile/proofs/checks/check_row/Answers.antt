@@ -8,8 +8,8 @@ pub returns-then-row-place : goal.returns-then-row-place
 returns-then-row-place c = kept (search rules) (kept (search rules) (broken (search rules) refl))
 
 -- the length is above 96, and the stamp is lawful
-pub returns-then-length-gt-LONGEST_TEXT : goal.returns-then-length-gt-LONGEST_TEXT
-returns-then-length-gt-LONGEST_TEXT c = kept (search rules) (broken (search rules) refl)
+pub returns-then-length-gt-GREATEST_LENGTH : goal.returns-then-length-gt-GREATEST_LENGTH
+returns-then-length-gt-GREATEST_LENGTH c = kept (search rules) (broken (search rules) refl)
 
 -- the stamp is not lawful
 pub returns-in_err-new : goal.returns-in_err-new
