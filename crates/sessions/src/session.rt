@@ -105,7 +105,7 @@ impl Session {
     }
 
     // Holds the entry in the mode, in hold k, which is its own or a free one, and takes the side. A text that
-    // it wrote to the entry stays.
+    // it wrote to the entry stays. `k < 8` is asked here and below, as the place of a hold alone has no type.
     pub(crate) fn grant(&mut self, k: usize, e: usize, mode: u8, side: Option<Side>)
         requires { k < 8 }
         ensures { self.new ≡ with_hold self.old k (granted_hold (slice_index_or self.old.holds k None) e mode) side }
